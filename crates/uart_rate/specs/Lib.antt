@@ -1,0 +1,7 @@
+pub mod Clocks
+pub mod Defaults
+pub mod Generators
+pub mod Judging
+pub mod Limits
+pub mod Rates
+pub mod Refusals

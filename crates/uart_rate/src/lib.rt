@@ -1,0 +1,9 @@
+pub mod achieved;
+pub mod clocks;
+pub mod config;
+pub mod divider;
+pub mod generator;
+pub mod judge;
+pub mod limits;
+pub mod rate;
+pub mod refusal;
