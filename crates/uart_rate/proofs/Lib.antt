@@ -1,1 +1,3 @@
+pub mod Heads
+pub mod Judgements
 pub mod Products

@@ -2,8 +2,9 @@ use mathlib.Core.Bool.{Bool, true, false}
 use mathlib.Core.Logic.{_⊎_}
 use mathlib.Core.Path.{_≡_}
 use Prim.Native.Nat.{ℕ, _+_, _*_, _/_, _<_, _≤_}
+use Rattle.std.specs.Results.{OkBy}
 use Rattle.std.specs.declared.result.Result.{Result}
-use Rattle.std.specs.declared.result.Result.the-variants.{Ok, Err}
+use Rattle.std.specs.declared.result.Result.the-variants.{Err}
 use Rattle.uart_rate.specs.declared.config.BaudrateTolerance.{BaudrateTolerance}
 use Rattle.uart_rate.specs.declared.config.BaudrateTolerance.the-variants.{Closest, Exact, ErrorPercent}
 use Rattle.uart_rate.specs.declared.divider.Divider.{Divider}
@@ -53,11 +54,6 @@ pub data Out-of-bounds (l : Limits) (clk baud : ℕ) : Type 0 where
   divider-zero : (p : ℕ) → Rate-law (l .q) clk baud p 0 → p ≤ l .p → Out-of-bounds l clk baud
   integer-too-large : (p d : ℕ) → Rate-law (l .q) clk baud p d → p ≤ l .p → l .i < d / 16 → Out-of-bounds l clk baud
 
--- the result is an Ok, and its value is so
-abbrev pub Ok-so : {X : Type 0} → Result X Refusal → (X → Type 0) → Type 0
-Ok-so (Ok x) P = P x
-Ok-so (Err e) P = ⊥
-
 -- What is answered to a tolerance t, a baud rate, and a clock whose source the chip has or not. The tests
 -- are in this order: each refusal is given where its test fails and all before it pass.
 pub data Judged (l : Limits) (has : Bool) (clk baud : ℕ) (t : BaudrateTolerance) (r : Result Divider Refusal) : Type 0 where
@@ -65,4 +61,4 @@ pub data Judged (l : Limits) (has : Bool) (clk baud : ℕ) (t : BaudrateToleranc
   baudrate-not-supported : Percent-in-range t → Baud-out-of-range baud → r ≡ Err BaudrateNotSupported → Judged l has clk baud t r
   clock-not-usable : Percent-in-range t → Baud-in-range baud → Clock-unusable has clk → r ≡ Err ClockNotUsable → Judged l has clk baud t r
   divider-out-of-range : Percent-in-range t → Baud-in-range baud → Clock-usable has clk → Out-of-bounds l clk baud → r ≡ Err DividerOutOfRange → Judged l has clk baud t r
-  accepted : Percent-in-range t → Baud-in-range baud → Clock-usable has clk → Ok-so r (Divides l clk baud) → Judged l has clk baud t r
+  accepted : Percent-in-range t → Baud-in-range baud → Clock-usable has clk → OkBy r (Divides l clk baud) → Judged l has clk baud t r

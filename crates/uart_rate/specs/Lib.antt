@@ -1,3 +1,4 @@
+pub mod Achieving
 pub mod Clocks
 pub mod Defaults
 pub mod Generators

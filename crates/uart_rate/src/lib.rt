@@ -1,3 +1,4 @@
+pub mod achieve;
 pub mod achieved;
 pub mod clocks;
 pub mod config;

@@ -51,4 +51,13 @@ impl Divider {
     {
         whole_part(16 * u64::from(clk), self.division())
     }
+
+    // How many sixteenths of a clock tick there must be in a second for the rate to be `baud`.
+    pub(crate) fn needed(&self, baud: u32) -> u128
+        ensures value { λ r. ⌜ r ≡ baud * now (self .entry) .prescaler * sixteenths-of (now (self .entry)) ⌝ }
+        ensures bound { λ r. ⌜ r < 2 ^ 80 ⌝ }
+        ensures positive { λ r. ⌜ (1 ≤ baud → 1 ≤ r) ⌝ }
+    {
+        u128::from(baud) * u128::from(self.division())
+    }
 }
