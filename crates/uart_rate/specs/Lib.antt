@@ -1,6 +1,8 @@
 pub mod Achieving
 pub mod Clocks
+pub mod Decided
 pub mod Defaults
+pub mod Examples
 pub mod Generators
 pub mod Judging
 pub mod Limits

@@ -8,3 +8,4 @@ pub mod judge;
 pub mod limits;
 pub mod rate;
 pub mod refusal;
+pub mod theorems;
