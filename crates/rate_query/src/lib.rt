@@ -1,0 +1,3 @@
+pub mod chip;
+pub mod line;
+pub mod query;
