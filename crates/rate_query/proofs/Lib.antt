@@ -1,1 +1,3 @@
+pub mod Percents
+pub mod Places
 pub mod Sources

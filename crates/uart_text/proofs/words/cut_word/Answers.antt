@@ -1,0 +1,25 @@
+use mathlib.Core.Path.{sym, ap, _∙_}
+use native.Mathlib.Omega.{arith}
+use lib.ListN.{length}
+use borrow.Author.Tests.{true-eqb, false-eqb}
+use Prim.Native.Nat.{_<_}
+use Rattle.uart_text.proofs.Cuts.{all-blank, cut}
+use Rattle.uart_text.proofs.words.cut_word.Needs as need
+
+pub returns-then-is-empty : need.returns-then-is-empty
+returns-then-is-empty c =
+    all-blank (c .args .text .now) (c .run-len .result) (c .run-len .ensures .all)
+    (ap length (sym (c .split-at .ensures .back)) ∙ true-eqb _ 0 (c .if-is-empty .ensures tt))
+
+pub returns : need.returns
+returns c =
+    let t = c .split-at .result .1 .now in
+    let pos : 0 < length t = omega (arith, false-eqb (length t) 0 (c .if-is-empty .ensures tt)) in
+    let blanks = c .run-len .ensures in
+    let word = c .run-len-2 .ensures in
+    cut (c .args .text .now) t (c .run-len .result) (c .run-len-2 .result)
+    (record { within = blanks .within; all = blanks .all; stops = blanks .stops })
+    (c .split-at .ensures .back) pos
+    (record { within = word .within; all = word .all; stops = word .stops })
+    (c .split-at-2 .result .0 .now) (c .split-at-2 .result .1 .now)
+    (c .split-at-2 .ensures .front) (c .split-at-2 .ensures .back)
