@@ -41,7 +41,12 @@ fn answer_arguments(rt: &LibcRuntime, arguments: &Vec<String>) -> io::Result<boo
 }
 
 // Answers one line of input; tells whether it could be read.
-fn answer_line(rt: &LibcRuntime, out: &mut impl Write, number: u64, line: &[u8]) -> io::Result<bool> {
+fn answer_line(
+    rt: &LibcRuntime,
+    out: &mut impl Write,
+    number: u64,
+    line: &[u8],
+) -> io::Result<bool> {
     match read_line(rt.alloc(), line)? {
         Asked::Nothing => Ok(true),
         Asked::Query(query) => {

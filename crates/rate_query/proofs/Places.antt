@@ -23,6 +23,7 @@ as-many ws = length-map ws (λ (w : RefT (List ℕ)). w .now)
 
 pub empty : (ws : List (RefT (List ℕ))) → Decides (eqb (length ws) 0) (texts ws ≡ [])
 empty [] = (λ _. refl, λ _. refl)
-empty (w ∷ ws) =
-    ( (λ e. let z : length (w ∷ ws) ≡ 0 = eqb-true (length (w ∷ ws)) 0 e in absurd (omega arith))
-    , (λ e. let z : _≡_ {A = ℕ} 0 1 = cc in absurd (omega arith)) )
+empty (w ∷ ws) = (
+  (λ e. let z : length (w ∷ ws) ≡ 0 = eqb-true (length (w ∷ ws)) 0 e in absurd (omega arith)),
+  (λ e. let z : _≡_ {A = ℕ} 0 1 = cc in absurd (omega arith)),
+)

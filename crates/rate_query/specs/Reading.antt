@@ -89,7 +89,7 @@ pub data Mistake (chip baud : List ℕ) (clk tolerance : Option (List ℕ)) (e :
   in-baud : (c : ChipName) → chip ≡ name-of c → Baud-mistake baud e → Mistake chip baud clk tolerance e
   in-clock : (c : ChipName) (n : ℕ) → chip ≡ name-of c → Number-word baud n → Wrong clk (λ w. Clock-mistake w e) → Mistake chip baud clk tolerance e
   in-tolerance : (c : ChipName) (n k : ℕ) → chip ≡ name-of c → Number-word baud n → Clock-words c clk k → Wrong tolerance (λ w. Tolerance-mistake w e) →
-    Mistake chip baud clk tolerance e
+      Mistake chip baud clk tolerance e
 
 -- what two to four words are read as: a query that they mean, or their first mistake
 abbrev pub Words-read : List ℕ → List ℕ → Option (List ℕ) → Option (List ℕ) → Result Query QueryError → Type 0

@@ -28,7 +28,8 @@ impl QueryError {
             QueryError::BaudTooLarge => "the baud rate is above 4294967295",
             QueryError::ClockNotANumber => "the clock is not a number",
             QueryError::ClockTooLarge => "the clock is above 4294967295",
-            QueryError::ToleranceUnknown => "the tolerance is not closest, exact or a percent such as 3%",
+            QueryError::ToleranceUnknown =>
+                "the tolerance is not closest, exact or a percent such as 3%",
             QueryError::ToleranceTooLarge => "the tolerance is above 255%",
         }
     }

@@ -57,7 +57,10 @@ pub impl fmt::Display for Answer as AnswerDisplay {
                 let fraction = achieved.divider.fraction;
                 let rate = achieved.rate;
                 let excess = Percent(achieved.excess);
-                write!(f, "p {p} d {d} ({integer} + {fraction}/16) rate {rate} fast by {excess}")
+                write!(
+                    f,
+                    "p {p} d {d} ({integer} + {fraction}/16) rate {rate} fast by {excess}"
+                )
             }
             Err(refusal) => {
                 let number = refusal.number();

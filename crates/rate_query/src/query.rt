@@ -9,13 +9,13 @@ use uart_rate::achieved::Achieved;
 use uart_rate::clocks::Clocks;
 use uart_rate::config::BaudrateTolerance;
 use uart_rate::config::Config;
+use uart_rate::esp32::Esp32;
+use uart_rate::esp32::Esp32Generator;
+use uart_rate::esp32c3::Esp32c3;
+use uart_rate::esp32c3::Esp32c3Generator;
+use uart_rate::esp32c6::Esp32c6;
+use uart_rate::esp32c6::Esp32c6Generator;
 use uart_rate::generator::BaudGenerator;
-use uart_rate::generator::Esp32;
-use uart_rate::generator::Esp32Generator;
-use uart_rate::generator::Esp32c3;
-use uart_rate::generator::Esp32c3Generator;
-use uart_rate::generator::Esp32c6;
-use uart_rate::generator::Esp32c6Generator;
 use uart_rate::refusal::Refusal;
 
 #[derive(Clone, Copy)]
@@ -37,7 +37,12 @@ fn answer_on<G: BaudGenerator>(query: &Query) -> Result<Achieved, Refusal>
     config.baudrate = query.baud;
     config.baudrate_tolerance = query.tolerance.unwrap_or(BaudrateTolerance::Closest);
     let clk = query.clk;
-    let clocks = Clocks { apb_clock: clk, rc_fast_clock: clk, xtal_clock: clk, ref_tick: clk };
+    let clocks = Clocks {
+        apb_clock: clk,
+        rc_fast_clock: clk,
+        xtal_clock: clk,
+        ref_tick: clk,
+    };
     achieve::<G>(&config, &clocks)
 }
 

@@ -19,7 +19,12 @@ use uart_text::number::NumberError;
 use uart_text::number::read_number;
 
 // The number that a word is, if it is at most `largest`; the mistake is `none` where it is no number, and `above` where it is too large.
-fn number_or(word: &[u8], largest: u64, none: QueryError, above: QueryError) -> Result<u64, QueryError>
+fn number_or(
+    word: &[u8],
+    largest: u64,
+    none: QueryError,
+    above: QueryError,
+) -> Result<u64, QueryError>
     ensures { λ r. ⌜ Cases r (λ n. Number (now (word .entry)) n × (n ≤ largest)) (Number-mistake (now (word .entry)) largest none above) ⌝ }
 {
     match read_number(word, largest) {
@@ -33,7 +38,12 @@ fn number_or(word: &[u8], largest: u64, none: QueryError, above: QueryError) -> 
 fn read_baud(word: &[u8]) -> Result<u32, QueryError>
     ensures { λ r. ⌜ Cases r (Number-word (now (word .entry))) (Baud-mistake (now (word .entry))) ⌝ }
 {
-    let baud = number_or(word, 4_294_967_295, QueryError::BaudNotANumber, QueryError::BaudTooLarge)?;
+    let baud = number_or(
+        word,
+        4_294_967_295,
+        QueryError::BaudNotANumber,
+        QueryError::BaudTooLarge,
+    )?;
     Ok(baud as u32)
 }
 
@@ -41,7 +51,12 @@ fn read_baud(word: &[u8]) -> Result<u32, QueryError>
 fn read_clock(word: &[u8]) -> Result<u32, QueryError>
     ensures { λ r. ⌜ Cases r (Number-word (now (word .entry))) (Clock-mistake (now (word .entry))) ⌝ }
 {
-    let clk = number_or(word, 4_294_967_295, QueryError::ClockNotANumber, QueryError::ClockTooLarge)?;
+    let clk = number_or(
+        word,
+        4_294_967_295,
+        QueryError::ClockNotANumber,
+        QueryError::ClockTooLarge,
+    )?;
     Ok(clk as u32)
 }
 
@@ -85,7 +100,12 @@ fn read_percent(word: &[u8]) -> Result<BaudrateTolerance, QueryError>
     let Some(number) = before_percent(word) else {
         return Err(QueryError::ToleranceUnknown);
     };
-    match number_or(number, 255, QueryError::ToleranceUnknown, QueryError::ToleranceTooLarge) {
+    match number_or(
+        number,
+        255,
+        QueryError::ToleranceUnknown,
+        QueryError::ToleranceTooLarge,
+    ) {
         Ok(percent) => Ok(BaudrateTolerance::ErrorPercent(percent as u8)),
         Err(e) => Err(e),
     }
@@ -103,7 +123,12 @@ fn read_tolerance_if_any(word: Option<&[u8]>) -> Result<Option<BaudrateTolerance
 }
 
 // Reads a query from a word for the chip and one for the baud rate, and one for the clock and one for the tolerance if they stand.
-fn read_parts(chip: &[u8], baud: &[u8], clk: Option<&[u8]>, tolerance: Option<&[u8]>) -> Result<Query, QueryError>
+fn read_parts(
+    chip: &[u8],
+    baud: &[u8],
+    clk: Option<&[u8]>,
+    tolerance: Option<&[u8]>,
+) -> Result<Query, QueryError>
     ensures { λ r. ⌜ Words-read (now (chip .entry)) (now (baud .entry)) (mapped now (clk .entry)) (mapped now (tolerance .entry)) r ⌝ }
 {
     let Some(chip) = ChipName::from_word(chip) else {
@@ -112,7 +137,12 @@ fn read_parts(chip: &[u8], baud: &[u8], clk: Option<&[u8]>, tolerance: Option<&[
     let baud = read_baud(baud)?;
     let clk = read_clock_or_default(chip, clk)?;
     let tolerance = read_tolerance_if_any(tolerance)?;
-    Ok(Query { chip, clk, baud, tolerance })
+    Ok(Query {
+        chip,
+        clk,
+        baud,
+        tolerance,
+    })
 }
 
 // How many words there are.
@@ -126,7 +156,11 @@ fn count_words(words: &[&[u8]]) -> usize
 fn nth_word<'a>(words: &[&'a [u8]], i: usize) -> Option<&'a [u8]>
     ensures { λ r. ⌜ mapped now r ≡ word-at i (texts (now (words .entry))) ⌝ }
 {
-    if i < words.len() { Some(words[i]) } else { None }
+    if i < words.len() {
+        Some(words[i])
+    } else {
+        None
+    }
 }
 
 // Reads a query from two to four words.

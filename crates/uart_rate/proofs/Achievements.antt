@@ -35,13 +35,15 @@ same-head clk baud v w a b e x y =
       divider = record {
         prescaler = ap (λ (u : Divider). u .prescaler) (x .divider) ∙ (e .prescaler ∙ sym (ap (λ (u : Divider). u .prescaler) (y .divider)));
         integer = ap (λ (u : Divider). u .integer) (x .divider) ∙ (e .integer ∙ sym (ap (λ (u : Divider). u .integer) (y .divider)));
-        fraction = ap (λ (u : Divider). u .fraction) (x .divider) ∙ (e .fraction ∙ sym (ap (λ (u : Divider). u .fraction) (y .divider))) };
+        fraction = ap (λ (u : Divider). u .fraction) (x .divider) ∙ (e .fraction ∙ sym (ap (λ (u : Divider). u .fraction) (y .divider)));
+      };
       rate = one-whole-part (16 * clk) (v .prescaler * sixteenths-of v) (a .rate) (b .rate) (x .head .rate)
-        (subst (λ (n : ℕ). Whole-part (16 * clk) (v .prescaler * n) (b .rate)) d
+          (subst (λ (n : ℕ). Whole-part (16 * clk) (v .prescaler * n) (b .rate)) d
           (subst (λ (n : ℕ). Whole-part (16 * clk) (n * sixteenths-of w) (b .rate)) p (y .head .rate)));
       excess = one-whole-part (1000000 * (16 * clk - baud * v .prescaler * sixteenths-of v)) (baud * v .prescaler * sixteenths-of v) (a .excess) (b .excess) (x .head .excess)
-        (subst (λ (n : ℕ). Whole-part (1000000 * (16 * clk - baud * v .prescaler * n)) (baud * v .prescaler * n) (b .excess)) d
-          (subst (λ (n : ℕ). Whole-part (1000000 * (16 * clk - baud * n * sixteenths-of w)) (baud * n * sixteenths-of w) (b .excess)) p (y .head .excess))) }
+          (subst (λ (n : ℕ). Whole-part (1000000 * (16 * clk - baud * v .prescaler * n)) (baud * v .prescaler * n) (b .excess)) d
+          (subst (λ (n : ℕ). Whole-part (1000000 * (16 * clk - baud * n * sixteenths-of w)) (baud * n * sixteenths-of w) (b .excess)) p (y .head .excess)));
+    }
 
 same-refusal : {r s : Result Achieved Refusal} {e : Refusal} → r ≡ Err e → s ≡ Err e → Same-answer Same-head r s
 same-refusal p q = rw (p, q) refl

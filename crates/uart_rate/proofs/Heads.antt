@@ -29,7 +29,8 @@ below-million q clk baud p d e hd law whole =
 pub head-rate : (q clk baud p d r e : ℕ) → Rate-law q clk baud p d → Whole-part (16 * clk) (p * d) r →
     Whole-part (1000000 * (16 * clk - baud * p * d)) (baud * p * d) e → Head-rate clk baud p d r e
 head-rate q clk baud p d r e law whole over = record {
-    rate = whole;
-    not-slower = not-slower q clk baud p d r law whole;
-    at-most = at-most q clk baud p d r law whole;
-    excess = over }
+  rate = whole;
+  not-slower = not-slower q clk baud p d r law whole;
+  at-most = at-most q clk baud p d r law whole;
+  excess = over;
+}

@@ -1,10 +1,10 @@
 -- What a judgement says, and that it leaves no choice.
 use mathlib.Core.Bool.{Bool, true, false}
 use mathlib.Core.Logic.{inl, inr}
-use mathlib.Core.Path.{_≡_, refl, sym, _∙_, subst}
+use mathlib.Core.Path.{_≡_, refl, ap}
 use Prim.Native.Nat.{ℕ, _+_, _*_, _/_, _<_, _≤_}
 use native.Mathlib.Omega.{arith}
-use Rattle.std.specs.Results.{OkBy}
+use Rattle.std.specs.Results.{Cases, OkBy}
 use Rattle.std.specs.declared.result.Result.{Result}
 use Rattle.std.specs.declared.result.Result.the-variants.{Ok, Err}
 use Rattle.uart_rate.specs.declared.config.BaudrateTolerance.{BaudrateTolerance}
@@ -12,6 +12,7 @@ use Rattle.uart_rate.specs.declared.config.BaudrateTolerance.the-variants.{Clo
 use Rattle.uart_rate.specs.declared.divider.Divider.{Divider}
 use Rattle.uart_rate.specs.declared.limits.Limits.{Limits}
 use Rattle.uart_rate.specs.declared.refusal.Refusal.{Refusal}
+use Rattle.uart_rate.specs.declared.refusal.Refusal.the-variants.{DividerOutOfRange}
 use Rattle.uart_rate.specs.Decided.{Same-answer, Same-divider}
 use Rattle.uart_rate.specs.Judging.{Judged, percent-out-of-range, baudrate-not-supported, clock-not-usable, divider-out-of-range, accepted, Divides, Out-of-bounds, prescaler-too-large, divider-zero, integer-too-large, Baud-in-range, Baud-out-of-range, Percent-in-range, Percent-out-of-range, Clock-usable, Clock-unusable, source-missing, stopped, too-high}
 use Rattle.uart_rate.specs.Rates.{Rate-law, sixteenths-of}
@@ -24,6 +25,12 @@ accepted-so l has clk baud t v (baudrate-not-supported a b e) = let z : _≡_ {A
 accepted-so l has clk baud t v (clock-not-usable a b c e) = let z : _≡_ {A = ℕ} 0 1 = cc in absurd (omega arith)
 accepted-so l has clk baud t v (divider-out-of-range a b c d e) = let z : _≡_ {A = ℕ} 0 1 = cc in absurd (omega arith)
 accepted-so l has clk baud t v (accepted a b c d) = (b, d)
+
+-- where the other tests pass, the divider rule decides
+pub in-order : (l : Limits) (has : Bool) (clk baud : ℕ) (t : BaudrateTolerance) (r : Result Divider Refusal) → Percent-in-range t → Baud-in-range baud → Clock-usable has clk →
+    Cases r (Divides l clk baud) (λ e. (e ≡ DividerOutOfRange) × Out-of-bounds l clk baud) → Judged l has clk baud t r
+in-order l has clk baud t (Ok v) a b c d = accepted a b c d
+in-order l has clk baud t (Err e) a b c d = divider-out-of-range a b c (d .1) (ap Err (d .0))
 
 percent-clash : (t : BaudrateTolerance) → Percent-in-range t → Percent-out-of-range t → ⊥
 percent-clash Closest a b = b
@@ -57,7 +64,8 @@ one-divider l clk baud v w a b =
     record {
       prescaler = e .0;
       integer = omega (arith, e .1, v .sixteenths, w .sixteenths);
-      fraction = omega (arith, e .1, v .sixteenths, w .sixteenths) }
+      fraction = omega (arith, e .1, v .sixteenths, w .sixteenths);
+    }
 
 same-refusal : {r s : Result Divider Refusal} {e : Refusal} → r ≡ Err e → s ≡ Err e → Same-answer Same-divider r s
 same-refusal p q = rw (p, q) refl

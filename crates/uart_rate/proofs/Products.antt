@@ -16,7 +16,6 @@ turned q k b = ap (λ x. x * b) (mul-comm q k) ∙ mul-assoc k q b
 pub ceiling : (q clk baud : ℕ) → 1 ≤ q → 1 ≤ clk → 1 ≤ baud → Least-prescaler q clk baud (prescaler-of q clk baud)
 ceiling q clk baud hq hc hb =
     let u : 0 < q * baud = positive q baud hq hb in
-    let n : ℕ = (clk - 1) / (q * baud) in
     let top : clk - 1 < (clk - 1) / (q * baud) * (q * baud) + q * baud = lt-div-mul-add u in
     record {
       positive = omega arith;
@@ -24,7 +23,8 @@ ceiling q clk baud hq hc hb =
       least = λ k hk h.
           let g : clk ≤ k * (q * baud) = rw (turned q k baud) at h in
           let d : (clk - 1) / (q * baud) < k = div-lt-iff-lt-mul u .1 (omega arith) in
-          omega arith }
+          omega arith;
+    }
 
 -- the reckoned divider obeys the rate law
 pub quotient : (q clk baud p : ℕ) → 1 ≤ baud → Least-prescaler q clk baud p → Rate-law q clk baud p (divisor-of clk baud p)
@@ -32,5 +32,6 @@ quotient q clk baud p hb hp =
     let u : 0 < baud * p = positive baud p hb (hp .positive) in
     record {
       prescaler = hp;
-      fast-enough = rw mul-comm (div-mul-le-self (16 * clk) (baud * p));
-      largest = rw (mul-add (baud * p) (16 * clk / (baud * p)) 1, mul-one (baud * p), mul-comm (baud * p) (16 * clk / (baud * p))) (lt-div-mul-add u) }
+      fast-enough = rw (mul-comm (baud * p) (16 * clk / (baud * p))) (div-mul-le-self (16 * clk) (baud * p));
+      largest = rw (mul-add (baud * p) (16 * clk / (baud * p)) 1, mul-one (baud * p), mul-comm (baud * p) (16 * clk / (baud * p))) (lt-div-mul-add u);
+    }

@@ -25,8 +25,9 @@ one-divisor n m d d′ a b c e =
 
 pub one-law : (q clk baud p d p′ d′ : ℕ) → Rate-law q clk baud p d → Rate-law q clk baud p′ d′ → (p ≡ p′) × (d ≡ d′)
 one-law q clk baud p d p′ d′ a b =
-    let e : p ≡ p′ = one-prescaler q clk baud p p′ (a .prescaler) (b .prescaler) in
-    ( e
-    , one-divisor (16 * clk) (baud * p) d d′ (a .fast-enough) (a .largest)
-      (subst (λ (x : ℕ). baud * x * d′ ≤ 16 * clk) (sym e) (b .fast-enough))
-      (subst (λ (x : ℕ). 16 * clk < baud * x * (d′ + 1)) (sym e) (b .largest)) )
+    let e : p ≡ p′ = one-prescaler q clk baud p p′ (a .prescaler) (b .prescaler) in (
+      e,
+      one-divisor (16 * clk) (baud * p) d d′ (a .fast-enough) (a .largest)
+          (subst (λ (x : ℕ). baud * x * d′ ≤ 16 * clk) (sym e) (b .fast-enough))
+          (subst (λ (x : ℕ). 16 * clk < baud * x * (d′ + 1)) (sym e) (b .largest)),
+    )

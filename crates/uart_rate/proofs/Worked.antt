@@ -44,7 +44,8 @@ judged l clk baud t v i =
     accepted (i .percent) (i .baud-least, i .baud-most) (usable clk (i .runs) (i .slow)) (record {
       law = rw (i .prescaler, i .divisor) (law (l .q) clk baud (i .q) (i .runs) (i .baud-least));
       prescaler-fits = i .prescaler-fits;
-      integer-fits = i .integer-fits })
+      integer-fits = i .integer-fits;
+    })
 
 abbrev head : ℕ → Divider → ℕ → ℕ → Achieved
 head clk v r e = record { clk = clk; divider = v; rate = r; excess = e }
@@ -58,7 +59,8 @@ runs l clk baud t v r e i near whole over =
     achieved v j near (record {
       clock = refl;
       divider = refl;
-      head = head-rate (l .q) clk baud (v .prescaler) (sixteenths-of v) r e (accepted-so l true clk baud t v j .1 .law) whole over })
+      head = head-rate (l .q) clk baud (v .prescaler) (sixteenths-of v) r e (accepted-so l true clk baud t v j .1 .law) whole over;
+    })
 
 refuses : (l : Limits) (clk baud : ℕ) → 1 ≤ clk → clk < 268435456 → 1 ≤ baud → baud ≤ 5000000 → Out-of-bounds l clk baud → Achieves l true clk baud Closest (Err DividerOutOfRange)
 refuses l clk baud hc hc′ hb hb′ o = refused (divider-out-of-range tt (hb, hb′) (usable clk hc hc′) o refl)
@@ -89,17 +91,18 @@ by-1-1 = record { prescaler = 1; integer = 0; fraction = 1; prescales = (lit≤ 
 
 pub worked-examples : Worked-examples
 worked-examples = record {
-    c3-115200 = (head 80000000 by-1-11111 115201 10, runs divided-limits 80000000 115200 Closest by-1-11111 115201 10 (record { percent = tt; q = lit≤ tt; runs = lit≤ tt; slow = lit< tt; baud-least = lit≤ tt; baud-most = lit≤ tt; prescaler = refl; divisor = refl; prescaler-fits = lit≤ tt; integer-fits = lit≤ tt }) (λ x. x) (record { reached = lit≤ tt; not-more = lit< tt }) (record { reached = lit≤ tt; not-more = lit< tt }), ((refl, refl), refl));
-    c3-9600 = (head 80000000 by-3-44444 9600 10, runs divided-limits 80000000 9600 Closest by-3-44444 9600 10 (record { percent = tt; q = lit≤ tt; runs = lit≤ tt; slow = lit< tt; baud-least = lit≤ tt; baud-most = lit≤ tt; prescaler = refl; divisor = refl; prescaler-fits = lit≤ tt; integer-fits = lit≤ tt }) (λ x. x) (record { reached = lit≤ tt; not-more = lit< tt }) (record { reached = lit≤ tt; not-more = lit< tt }), ((refl, refl), refl));
-    c3-last-undivided = (head 39302400 by-1-65504 9600 0, runs divided-limits 39302400 9600 Closest by-1-65504 9600 0 (record { percent = tt; q = lit≤ tt; runs = lit≤ tt; slow = lit< tt; baud-least = lit≤ tt; baud-most = lit≤ tt; prescaler = refl; divisor = refl; prescaler-fits = lit≤ tt; integer-fits = lit≤ tt }) (λ x. x) (record { reached = lit≤ tt; not-more = lit< tt }) (record { reached = lit≤ tt; not-more = lit< tt }), (refl, refl));
-    c3-first-divided = (head 39302401 by-2-32752 9600 0, runs divided-limits 39302401 9600 Closest by-2-32752 9600 0 (record { percent = tt; q = lit≤ tt; runs = lit≤ tt; slow = lit< tt; baud-least = lit≤ tt; baud-most = lit≤ tt; prescaler = refl; divisor = refl; prescaler-fits = lit≤ tt; integer-fits = lit≤ tt }) (λ x. x) (record { reached = lit≤ tt; not-more = lit< tt }) (record { reached = lit≤ tt; not-more = lit< tt }), (refl, refl));
-    c3-slowest = (head 80000000 by-254-65446 77 5, runs divided-limits 80000000 77 Closest by-254-65446 77 5 (record { percent = tt; q = lit≤ tt; runs = lit≤ tt; slow = lit< tt; baud-least = lit≤ tt; baud-most = lit≤ tt; prescaler = refl; divisor = refl; prescaler-fits = lit≤ tt; integer-fits = lit≤ tt }) (λ x. x) (record { reached = lit≤ tt; not-more = lit< tt }) (record { reached = lit≤ tt; not-more = lit< tt }), (refl, refl));
-    c3-too-slow = refuses divided-limits 80000000 76 (lit≤ tt) (lit< tt) (lit≤ tt) (lit≤ tt) (prescaler-too-large 258 (ceiling 4094 80000000 76 (lit≤ tt) (lit≤ tt) (lit≤ tt)) (lit< tt));
-    esp32-slowest = (head 80000000 by-1-16623376 77 0, runs esp32-limits 80000000 77 Closest by-1-16623376 77 0 (record { percent = tt; q = lit≤ tt; runs = lit≤ tt; slow = lit< tt; baud-least = lit≤ tt; baud-most = lit≤ tt; prescaler = refl; divisor = refl; prescaler-fits = lit≤ tt; integer-fits = lit≤ tt }) (λ x. x) (record { reached = lit≤ tt; not-more = lit< tt }) (record { reached = lit≤ tt; not-more = lit< tt }), (refl, refl));
-    esp32-too-slow = refuses esp32-limits 80000000 76 (lit≤ tt) (lit< tt) (lit≤ tt) (lit≤ tt) (integer-too-large 1 16842105 (law 268435456 80000000 76 (lit≤ tt) (lit≤ tt) (lit≤ tt)) (lit≤ tt) (lit< tt));
-    esp32-fast = (head 1000000 by-1-3 5333333 66666, runs esp32-limits 1000000 5000000 Closest by-1-3 5333333 66666 (record { percent = tt; q = lit≤ tt; runs = lit≤ tt; slow = lit< tt; baud-least = lit≤ tt; baud-most = lit≤ tt; prescaler = refl; divisor = refl; prescaler-fits = lit≤ tt; integer-fits = lit≤ tt }) (λ x. x) (record { reached = lit≤ tt; not-more = lit< tt }) (record { reached = lit≤ tt; not-more = lit< tt }), ((refl, refl), refl));
-    esp32-exact = not-achievable by-1-3 (judged esp32-limits 1000000 5000000 Exact by-1-3 (record { percent = tt; q = lit≤ tt; runs = lit≤ tt; slow = lit< tt; baud-least = lit≤ tt; baud-most = lit≤ tt; prescaler = refl; divisor = refl; prescaler-fits = lit≤ tt; integer-fits = lit≤ tt })) (lit< tt) refl;
-    esp32-six-percent = not-achievable by-1-3 (judged esp32-limits 1000000 5000000 (ErrorPercent 6) by-1-3 (record { percent = (lit≤ tt, lit≤ tt); q = lit≤ tt; runs = lit≤ tt; slow = lit< tt; baud-least = lit≤ tt; baud-most = lit≤ tt; prescaler = refl; divisor = refl; prescaler-fits = lit≤ tt; integer-fits = lit≤ tt })) (lit< tt) refl;
-    esp32-seven-percent = (head 1000000 by-1-3 5333333 66666, runs esp32-limits 1000000 5000000 (ErrorPercent 7) by-1-3 5333333 66666 (record { percent = (lit≤ tt, lit≤ tt); q = lit≤ tt; runs = lit≤ tt; slow = lit< tt; baud-least = lit≤ tt; baud-most = lit≤ tt; prescaler = refl; divisor = refl; prescaler-fits = lit≤ tt; integer-fits = lit≤ tt }) (λ x. omega arith) (record { reached = lit≤ tt; not-more = lit< tt }) (record { reached = lit≤ tt; not-more = lit< tt }), ((refl, refl), refl));
-    esp32-one-sixteenth = (head 312500 by-1-1 5000000 0, runs esp32-limits 312500 5000000 Closest by-1-1 5000000 0 (record { percent = tt; q = lit≤ tt; runs = lit≤ tt; slow = lit< tt; baud-least = lit≤ tt; baud-most = lit≤ tt; prescaler = refl; divisor = refl; prescaler-fits = lit≤ tt; integer-fits = lit≤ tt }) (λ x. x) (record { reached = lit≤ tt; not-more = lit< tt }) (record { reached = lit≤ tt; not-more = lit< tt }), (refl, refl));
-    esp32-no-divider = refuses esp32-limits 312499 5000000 (lit≤ tt) (lit< tt) (lit≤ tt) (lit≤ tt) (divider-zero 1 (law 268435456 312499 5000000 (lit≤ tt) (lit≤ tt) (lit≤ tt)) (lit≤ tt)) }
+  c3-115200 = (head 80000000 by-1-11111 115201 10, runs divided-limits 80000000 115200 Closest by-1-11111 115201 10 (record { percent = tt; q = lit≤ tt; runs = lit≤ tt; slow = lit< tt; baud-least = lit≤ tt; baud-most = lit≤ tt; prescaler = refl; divisor = refl; prescaler-fits = lit≤ tt; integer-fits = lit≤ tt }) (λ x. x) (record { reached = lit≤ tt; not-more = lit< tt }) (record { reached = lit≤ tt; not-more = lit< tt }), ((refl, refl), refl));
+  c3-9600 = (head 80000000 by-3-44444 9600 10, runs divided-limits 80000000 9600 Closest by-3-44444 9600 10 (record { percent = tt; q = lit≤ tt; runs = lit≤ tt; slow = lit< tt; baud-least = lit≤ tt; baud-most = lit≤ tt; prescaler = refl; divisor = refl; prescaler-fits = lit≤ tt; integer-fits = lit≤ tt }) (λ x. x) (record { reached = lit≤ tt; not-more = lit< tt }) (record { reached = lit≤ tt; not-more = lit< tt }), ((refl, refl), refl));
+  c3-last-undivided = (head 39302400 by-1-65504 9600 0, runs divided-limits 39302400 9600 Closest by-1-65504 9600 0 (record { percent = tt; q = lit≤ tt; runs = lit≤ tt; slow = lit< tt; baud-least = lit≤ tt; baud-most = lit≤ tt; prescaler = refl; divisor = refl; prescaler-fits = lit≤ tt; integer-fits = lit≤ tt }) (λ x. x) (record { reached = lit≤ tt; not-more = lit< tt }) (record { reached = lit≤ tt; not-more = lit< tt }), (refl, refl));
+  c3-first-divided = (head 39302401 by-2-32752 9600 0, runs divided-limits 39302401 9600 Closest by-2-32752 9600 0 (record { percent = tt; q = lit≤ tt; runs = lit≤ tt; slow = lit< tt; baud-least = lit≤ tt; baud-most = lit≤ tt; prescaler = refl; divisor = refl; prescaler-fits = lit≤ tt; integer-fits = lit≤ tt }) (λ x. x) (record { reached = lit≤ tt; not-more = lit< tt }) (record { reached = lit≤ tt; not-more = lit< tt }), (refl, refl));
+  c3-slowest = (head 80000000 by-254-65446 77 5, runs divided-limits 80000000 77 Closest by-254-65446 77 5 (record { percent = tt; q = lit≤ tt; runs = lit≤ tt; slow = lit< tt; baud-least = lit≤ tt; baud-most = lit≤ tt; prescaler = refl; divisor = refl; prescaler-fits = lit≤ tt; integer-fits = lit≤ tt }) (λ x. x) (record { reached = lit≤ tt; not-more = lit< tt }) (record { reached = lit≤ tt; not-more = lit< tt }), (refl, refl));
+  c3-too-slow = refuses divided-limits 80000000 76 (lit≤ tt) (lit< tt) (lit≤ tt) (lit≤ tt) (prescaler-too-large 258 (ceiling 4094 80000000 76 (lit≤ tt) (lit≤ tt) (lit≤ tt)) (lit< tt));
+  esp32-slowest = (head 80000000 by-1-16623376 77 0, runs esp32-limits 80000000 77 Closest by-1-16623376 77 0 (record { percent = tt; q = lit≤ tt; runs = lit≤ tt; slow = lit< tt; baud-least = lit≤ tt; baud-most = lit≤ tt; prescaler = refl; divisor = refl; prescaler-fits = lit≤ tt; integer-fits = lit≤ tt }) (λ x. x) (record { reached = lit≤ tt; not-more = lit< tt }) (record { reached = lit≤ tt; not-more = lit< tt }), (refl, refl));
+  esp32-too-slow = refuses esp32-limits 80000000 76 (lit≤ tt) (lit< tt) (lit≤ tt) (lit≤ tt) (integer-too-large 1 16842105 (law 268435456 80000000 76 (lit≤ tt) (lit≤ tt) (lit≤ tt)) (lit≤ tt) (lit< tt));
+  esp32-fast = (head 1000000 by-1-3 5333333 66666, runs esp32-limits 1000000 5000000 Closest by-1-3 5333333 66666 (record { percent = tt; q = lit≤ tt; runs = lit≤ tt; slow = lit< tt; baud-least = lit≤ tt; baud-most = lit≤ tt; prescaler = refl; divisor = refl; prescaler-fits = lit≤ tt; integer-fits = lit≤ tt }) (λ x. x) (record { reached = lit≤ tt; not-more = lit< tt }) (record { reached = lit≤ tt; not-more = lit< tt }), ((refl, refl), refl));
+  esp32-exact = not-achievable by-1-3 (judged esp32-limits 1000000 5000000 Exact by-1-3 (record { percent = tt; q = lit≤ tt; runs = lit≤ tt; slow = lit< tt; baud-least = lit≤ tt; baud-most = lit≤ tt; prescaler = refl; divisor = refl; prescaler-fits = lit≤ tt; integer-fits = lit≤ tt })) (lit< tt) refl;
+  esp32-six-percent = not-achievable by-1-3 (judged esp32-limits 1000000 5000000 (ErrorPercent 6) by-1-3 (record { percent = (lit≤ tt, lit≤ tt); q = lit≤ tt; runs = lit≤ tt; slow = lit< tt; baud-least = lit≤ tt; baud-most = lit≤ tt; prescaler = refl; divisor = refl; prescaler-fits = lit≤ tt; integer-fits = lit≤ tt })) (lit< tt) refl;
+  esp32-seven-percent = (head 1000000 by-1-3 5333333 66666, runs esp32-limits 1000000 5000000 (ErrorPercent 7) by-1-3 5333333 66666 (record { percent = (lit≤ tt, lit≤ tt); q = lit≤ tt; runs = lit≤ tt; slow = lit< tt; baud-least = lit≤ tt; baud-most = lit≤ tt; prescaler = refl; divisor = refl; prescaler-fits = lit≤ tt; integer-fits = lit≤ tt }) (λ x. omega arith) (record { reached = lit≤ tt; not-more = lit< tt }) (record { reached = lit≤ tt; not-more = lit< tt }), ((refl, refl), refl));
+  esp32-one-sixteenth = (head 312500 by-1-1 5000000 0, runs esp32-limits 312500 5000000 Closest by-1-1 5000000 0 (record { percent = tt; q = lit≤ tt; runs = lit≤ tt; slow = lit< tt; baud-least = lit≤ tt; baud-most = lit≤ tt; prescaler = refl; divisor = refl; prescaler-fits = lit≤ tt; integer-fits = lit≤ tt }) (λ x. x) (record { reached = lit≤ tt; not-more = lit< tt }) (record { reached = lit≤ tt; not-more = lit< tt }), (refl, refl));
+  esp32-no-divider = refuses esp32-limits 312499 5000000 (lit≤ tt) (lit< tt) (lit≤ tt) (lit≤ tt) (divider-zero 1 (law 268435456 312499 5000000 (lit≤ tt) (lit≤ tt) (lit≤ tt)) (lit≤ tt));
+}

@@ -41,6 +41,6 @@ Same-answer alike (Err e) (Err f) = e ≡ f
 -- answer is given exactly where its case of the rules says.
 pub record Answers-decided : Type 0 where
   pub judging : (l : Limits) (has : Bool) (clk baud : ℕ) (t : BaudrateTolerance) (r s : Result Divider Refusal) →
-    Judged l has clk baud t r → Judged l has clk baud t s → Same-answer Same-divider r s
+      Judged l has clk baud t r → Judged l has clk baud t s → Same-answer Same-divider r s
   pub achieving : (l : Limits) (has : Bool) (clk baud : ℕ) (t : BaudrateTolerance) (r s : Result Achieved Refusal) →
-    Achieves l has clk baud t r → Achieves l has clk baud t s → Same-answer Same-head r s
+      Achieves l has clk baud t r → Achieves l has clk baud t s → Same-answer Same-head r s

@@ -27,12 +27,21 @@ fn exceeds(percent: u8, clk: u32, baud: u32, divider: Divider) -> bool
 }
 
 // A rate further above the baud rate than the tolerance allows is refused.
-pub fn judge_tolerance(tolerance: BaudrateTolerance, clk: u32, baud: u32, divider: Divider) -> Result<(), Refusal>
+pub fn judge_tolerance(
+    tolerance: BaudrateTolerance,
+    clk: u32,
+    baud: u32,
+    divider: Divider,
+) -> Result<(), Refusal>
     ensures { λ r. ⌜ Cases r (λ _. Too-fast tolerance clk baud divider → ⊥) (λ e. (e ≡ BaudrateNotAchievable) × Too-fast tolerance clk baud divider) ⌝ }
 {
     match tolerance {
-        BaudrateTolerance::Exact if exceeds(1, clk, baud, divider) => Err(Refusal::BaudrateNotAchievable),
-        BaudrateTolerance::ErrorPercent(n) if exceeds(n, clk, baud, divider) => Err(Refusal::BaudrateNotAchievable),
+        BaudrateTolerance::Exact if exceeds(1, clk, baud, divider) => Err(
+            Refusal::BaudrateNotAchievable,
+        ),
+        BaudrateTolerance::ErrorPercent(n) if exceeds(n, clk, baud, divider) => Err(
+            Refusal::BaudrateNotAchievable,
+        ),
         _ => Ok(()),
     }
 }
@@ -54,11 +63,20 @@ fn run(q: u32, clk: u32, baud: u32, divider: Divider) -> Achieved
 {
     let rate = divider.rate(clk);
     let excess = excess(clk, baud, divider);
-    Achieved { clk, divider, rate: rate as u32, excess: excess as u32 }
+    Achieved {
+        clk,
+        divider,
+        rate: rate as u32,
+        excess: excess as u32,
+    }
 }
 
 // What the head gets from the divider of a configuration that was judged, if its rate is near enough.
-fn settle<G: BaudGenerator>(config: &Config, clocks: &Clocks, divider: Divider) -> Result<Achieved, Refusal>
+fn settle<G: BaudGenerator>(
+    config: &Config,
+    clocks: &Clocks,
+    divider: Divider,
+) -> Result<Achieved, Refusal>
     requires { ⌜ Judged (G·BaudGenerator .limits) (G·BaudGenerator .has (now config .«clock_source»)) (hertz-of (now clocks) (now config .«clock_source»)) (now config .baudrate) (now config .«baudrate_tolerance») (Ok divider) ⌝ }
     ensures { λ r. ⌜ Achieves (G·BaudGenerator .limits) (G·BaudGenerator .has (now (config .entry) .«clock_source»)) (hertz-of (now (clocks .entry)) (now (config .entry) .«clock_source»)) (now (config .entry) .baudrate) (now (config .entry) .«baudrate_tolerance») r ⌝ }
 {

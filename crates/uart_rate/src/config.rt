@@ -47,7 +47,12 @@ pub enum StopBits {
 #[derive(Clone, Copy)]
 pub enum SwFlowControl {
     Disabled,
-    Enabled { xon_char: u8, xoff_char: u8, xon_threshold: u8, xoff_threshold: u8 },
+    Enabled {
+        xon_char: u8,
+        xoff_char: u8,
+        xon_threshold: u8,
+        xoff_threshold: u8,
+    },
 }
 
 #[derive(Clone, Copy)]
@@ -106,10 +111,18 @@ impl Config {
             parity: Parity::None,
             stop_bits: StopBits::_1,
             sw_flow_ctrl: SwFlowControl::Disabled,
-            hw_flow_ctrl: HwFlowControl { cts: CtsConfig::Disabled, rts: RtsConfig::Disabled },
+            hw_flow_ctrl: HwFlowControl {
+                cts: CtsConfig::Disabled,
+                rts: RtsConfig::Disabled,
+            },
             clock_source,
-            rx: RxConfig { fifo_full_threshold: 120, timeout: Some(10) },
-            tx: TxConfig { fifo_empty_threshold: 10 },
+            rx: RxConfig {
+                fifo_full_threshold: 120,
+                timeout: Some(10),
+            },
+            tx: TxConfig {
+                fifo_empty_threshold: 10,
+            },
         }
     }
 }

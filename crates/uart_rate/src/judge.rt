@@ -4,7 +4,6 @@ ghost use mathlib.Core.Path.{_≡_};
 ghost use Rattle.std.specs.Results.{Cases};
 ghost use Rattle.uart_rate.specs.Clocks.{hertz-of};
 ghost use Rattle.uart_rate.specs.Judging.{Percent-in-range, Percent-out-of-range, Baud-in-range, Baud-out-of-range, Clock-usable, Clock-unusable, Divides, Out-of-bounds, Judged};
-ghost use Rattle.std.specs.Vec.{made};
 ghost use Rattle.uart_rate.specs.declared.refusal.Refusal.the-variants.{PercentOutOfRange, BaudrateNotSupported, ClockNotUsable, DividerOutOfRange};
 ghost use Prim.Native.Nat.{ℕ, _+_, _-_, _*_, _/_, _%_, _^_, _<_, _≤_};
 use super::clocks::Clocks;
@@ -37,10 +36,9 @@ pub fn judge_baud(baud: u32) -> Result<(), Refusal>
     Ok(())
 }
 
-// The clock of a source that the chip has; one that stands still or runs at 268,435,456 hertz or more is refused, and so is a source that the chip lacks.
-pub fn judge_clock<G: BaudGenerator>(source: ClockSource, clocks: &Clocks) -> Result<u32, Refusal>
-    ensures value { λ r. ⌜ made r (λ clk. clk ≡ hertz-of (now (clocks .entry)) source) ⌝ }
-    ensures judged { λ r. ⌜ Cases r (λ _. Clock-usable (G·BaudGenerator .has source) (hertz-of (now (clocks .entry)) source)) (λ e. (e ≡ ClockNotUsable) × Clock-unusable (G·BaudGenerator .has source) (hertz-of (now (clocks .entry)) source)) ⌝ }
+// A source that the chip lacks is refused, and so is one that stands still or runs at 268,435,456 hertz or more.
+pub fn judge_clock<G: BaudGenerator>(source: ClockSource, clocks: &Clocks) -> Result<(), Refusal>
+    ensures { λ r. ⌜ Cases r (λ _. Clock-usable (G·BaudGenerator .has source) (hertz-of (now (clocks .entry)) source)) (λ e. (e ≡ ClockNotUsable) × Clock-unusable (G·BaudGenerator .has source) (hertz-of (now (clocks .entry)) source)) ⌝ }
 {
     let clk = clocks.hertz(source);
     if !G::has_source(source) {
@@ -52,11 +50,11 @@ pub fn judge_clock<G: BaudGenerator>(source: ClockSource, clocks: &Clocks) -> Re
     if clk >= 268_435_456 {
         return Err(Refusal::ClockNotUsable);
     }
-    Ok(clk)
+    Ok(())
 }
 
-// The divider for a clock and a baud rate that are in range: the least prescaler, and under it the largest divider that is not too slow, if they fit the chip.
-fn divide<G: BaudGenerator>(clk: u32, baud: u32) -> Result<Divider, Refusal>
+// The divider for a clock and a baud rate that are not 0: the least prescaler, and under it the largest divider that is not too slow, if they fit the chip.
+fn divide_clock<G: BaudGenerator>(clk: u32, baud: u32) -> Result<Divider, Refusal>
     requires { ⌜ 1 ≤ clk ⌝ ∗ ⌜ 1 ≤ baud ⌝ }
     ensures { λ r. ⌜ Cases r (λ v. Divides (G·BaudGenerator .limits) clk baud v) (λ e. (e ≡ DividerOutOfRange) × Out-of-bounds (G·BaudGenerator .limits) clk baud) ⌝ }
 {
@@ -73,7 +71,21 @@ fn divide<G: BaudGenerator>(clk: u32, baud: u32) -> Result<Divider, Refusal>
     if integer > u64::from(limits.i) {
         return Err(Refusal::DividerOutOfRange);
     }
-    Ok(Divider { prescaler: prescaler as u16, integer: integer as u32, fraction: (divisor % 16) as u8 })
+    Ok(Divider {
+        prescaler: prescaler as u16,
+        integer: integer as u32,
+        fraction: (divisor % 16) as u8,
+    })
+}
+
+// The divider for a configuration that passed the other tests.
+fn divide<G: BaudGenerator>(config: &Config, clocks: &Clocks) -> Result<Divider, Refusal>
+    requires percent { ⌜ Percent-in-range (now config .«baudrate_tolerance») ⌝ }
+    requires baud { ⌜ Baud-in-range (now config .baudrate) ⌝ }
+    requires clock { ⌜ Clock-usable (G·BaudGenerator .has (now config .«clock_source»)) (hertz-of (now clocks) (now config .«clock_source»)) ⌝ }
+    ensures { λ r. ⌜ Judged (G·BaudGenerator .limits) (G·BaudGenerator .has (now (config .entry) .«clock_source»)) (hertz-of (now (clocks .entry)) (now (config .entry) .«clock_source»)) (now (config .entry) .baudrate) (now (config .entry) .«baudrate_tolerance») r ⌝ }
+{
+    divide_clock::<G>(clocks.hertz(config.clock_source), config.baudrate)
 }
 
 // The judgement on a configuration before anything is written: the first of the four tests that fails, or the divider.
@@ -82,7 +94,6 @@ pub fn judge<G: BaudGenerator>(config: &Config, clocks: &Clocks) -> Result<Divid
 {
     judge_percent(config.baudrate_tolerance)?;
     judge_baud(config.baudrate)?;
-    let clk = judge_clock::<G>(config.clock_source, clocks)?;
-    let divider = divide::<G>(clk, config.baudrate)?;
-    Ok(divider)
+    judge_clock::<G>(config.clock_source, clocks)?;
+    divide::<G>(config, clocks)
 }

@@ -5,17 +5,14 @@ ghost use Rattle.uart_rate.specs.Examples.{Worked-examples};
 // The rate law is met by the reckoned prescaler and divider, and by no other numbers.
 pub fn law_reckoned()
     ensures { λ _. ⌜ Law-reckoned ⌝ }
-{
-}
+{}
 
 // The rules on refusals, dividers and rates allow one answer to each configuration.
 pub fn answers_decided()
     ensures { λ _. ⌜ Answers-decided ⌝ }
-{
-}
+{}
 
 // The worked examples of `docs/RATES.md` hold.
 pub fn worked_examples()
     ensures { λ _. ⌜ Worked-examples ⌝ }
-{
-}
+{}

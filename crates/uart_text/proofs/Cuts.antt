@@ -1,9 +1,9 @@
--- How the words of a line are cut off it, one by one. Assumes nothing.
+-- How the words of a line are cut off it, one by one.
 use mathlib.Core.Path.{_≡_, refl, sym, ap, subst, _∙_}
 use mathlib.Core.Bool.{Bool, true, false, Bool·beq}
 use mathlib.Core.List.{List, [], _∷_, _++_, append-assoc, append-nil}
-use mathlib.Core.Logic.{_≢_, ⊎-elim}
-use Prim.Native.Nat.{ℕ, _+_, _≤_, _<_}
+use mathlib.Core.Logic.{⊎-elim}
+use Prim.Native.Nat.{ℕ, _≤_, _<_}
 use native.Mathlib.Nat.{add-zero}
 use native.Mathlib.Omega.{arith}
 use lib.ListN.{length, getD, take, drop, length-append, length-drop, take-append-drop}
@@ -26,26 +26,26 @@ ends-word : (t : List ℕ) → (0 < length t → blank (getD t 0 0) ≡ true) �
 ends-word [] h = tt
 ends-word (b ∷ t) h = h (omega arith)
 
--- the bytes of a run from the front, of blanks or of others, that stops after n bytes
-pub record Run (kind : Bool) (s : List ℕ) (n : ℕ) (other : Bool) : Type 0 where
-  pub within : n ≤ length s
-  pub all : All-of kind (take n s)
-  pub stops : n < length s → blank (getD s n 0) ≡ other
+-- the first n bytes of s are blank or are not, as kind says, and the byte after them is as `other` says
+pub record Leading (kind : Bool) (s : List ℕ) (n : ℕ) (other : Bool) : Type 0 where
+  pub bound : n ≤ length s
+  pub alike : All-of kind (take n s)
+  pub change : n < length s → blank (getD s n 0) ≡ other
 
 -- n blanks, and then m other bytes
-pub cut : (s t : List ℕ) (n m : ℕ) → Run true s n false → t ≡ drop n s → 0 < length t → Run false t m true → (w rest : List ℕ) → w ≡ take m t → rest ≡ drop m t → Next-word s w rest
+pub cut : (s t : List ℕ) (n m : ℕ) → Leading true s n false → t ≡ drop n s → 0 < length t → Leading false t m true → (w rest : List ℕ) → w ≡ take m t → rest ≡ drop m t → Next-word s w rest
 cut s t n m blanks e pos word w rest is after =
     let first : blank (getD t 0 0) ≡ false =
-    ap (λ l. blank (getD l 0 0)) e ∙ ap blank (getD-drop n s 0 0 ∙ ap (λ i. getD s i 0) (add-zero n)) ∙ blanks .stops (omega (arith, ap length e, length-drop n s)) in
+    ap (λ l. blank (getD l 0 0)) e ∙ ap blank (getD-drop n s 0 0 ∙ ap (λ i. getD s i 0) (add-zero n)) ∙ blanks .change (omega (arith, ap length e, length-drop n s)) in
     let more : 0 < m =
-    ⊎-elim (λ h. h) (λ h. let z : m ≡ 0 = omega arith in absurd (both-ways (blank (getD t 0 0)) first (subst (λ i. blank (getD t i 0) ≡ true) z (word .stops (omega arith))))) (cases-lt 0 m) in
+    ⊎-elim (λ h. h) (λ h. let z : m ≡ 0 = omega arith in absurd (both-ways (blank (getD t 0 0)) first (subst (λ i. blank (getD t i 0) ≡ true) z (word .change (omega arith))))) (cases-lt 0 m) in
     record {
       blanks = take n s;
       whole = sym (take-append-drop n s) ∙ ap (λ l. take n s ++ l) (sym e ∙ sym (take-append-drop m t) ∙ (λ i. sym is i ++ sym after i));
-      before = blanks .all;
-      some = λ none. omega (arith, ap length (sym is ∙ none), length-take-le m t (word .within));
-      inked = subst (All-of false) (sym is) (word .all);
-      stops = subst Ends-word (sym after) (ends-word (drop m t) (λ h. ap blank (getD-drop m t 0 0 ∙ ap (λ i. getD t i 0) (add-zero m)) ∙ word .stops (omega (arith, length-drop m t))));
+      before = blanks .alike;
+      some = λ none. omega (arith, ap length (sym is ∙ none), length-take-le m t (word .bound));
+      inked = subst (All-of false) (sym is) (word .alike);
+      stops = subst Ends-word (sym after) (ends-word (drop m t) (λ h. ap blank (getD-drop m t 0 0 ∙ ap (λ i. getD t i 0) (add-zero m)) ∙ word .change (omega (arith, length-drop m t))));
     }
 
 -- ws are the first words of the line, and rest is what is left of it

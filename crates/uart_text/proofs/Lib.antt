@@ -1,5 +1,6 @@
 pub mod Cuts
-pub mod Numerals
 pub mod Lines
-pub mod Values
+pub mod Numerals
+pub mod Reading
 pub mod Unique
+pub mod Values

@@ -1,12 +1,12 @@
--- A line without its comment or its end. Assumes nothing.
-use mathlib.Core.Path.{_≡_, refl, sym, ap, subst, _∙_}
+-- A line without its comment or its end.
+use mathlib.Core.Path.{_≡_, sym, ap, subst, _∙_}
 use mathlib.Core.List.{List, [], _∷_, _++_, append-assoc, append-nil}
-use mathlib.Core.Logic.{_≢_, _⊎_, inl, inr, ⊎-elim}
-use Prim.Native.Nat.{ℕ, _+_, _-_, _≤_, _<_}
+use mathlib.Core.Logic.{_≢_, ⊎-elim}
+use Prim.Native.Nat.{ℕ, _+_, _-_, _<_}
 use native.Mathlib.Omega.{arith}
 use lib.ListN.{length, getD, take, drop, length-append, take-append-drop}
 use Rattle.std.proofs.shelf.Lists.{drop-more, same-from-push}
-use Rattle.uart_text.specs.Line.{Ends-in, Stripped, Line-end, return-newline, newline, return, unended, Without-end, Uncommented, Commented}
+use Rattle.uart_text.specs.Line.{Ends-in, Stripped, return-newline, newline, return, unended, Without-end, Uncommented, Commented}
 
 pub empty-ends-in-none : (b : ℕ) (s : List ℕ) → length s ≡ 0 → Ends-in b s → ⊥
 empty-ends-in-none b s e h = omega (arith, ap length (h .1), length-append (h .0) (b ∷ []))

@@ -1,6 +1,6 @@
--- The scan from the right accepts exactly the numerals. Assumes nothing.
+-- The scan from the right accepts exactly the numerals.
 use mathlib.Core.Path.{_≡_, refl, sym, ap, subst, _∙_}
-use mathlib.Core.Bool.{Bool, true, false, cond, _&&_}
+use mathlib.Core.Bool.{Bool, true, false, _&&_}
 use mathlib.Core.List.{List, [], _∷_, _++_, append-assoc, append-nil}
 use mathlib.Core.Logic.{_≢_, _⊎_, inl, inr, ⊎-elim}
 use Prim.Native.Nat.{ℕ, suc, _+_, _%_, _≤_}
@@ -9,7 +9,6 @@ use native.Mathlib.Omega.{arith}
 use lib.Dec.{eqb, leb}
 use lib.ListN.{length, length-append}
 use Rattle.std.specs.Text.{asciiDigit}
-use Rattle.std.specs.Orderings.{Decides}
 use Rattle.std.proofs.shelf.Lists.{nil-from-length}
 use Rattle.std.proofs.shelf.Tests.{and-parts, and-from, and-left, and-right, leb-true, le-leb, both-ways, eqb-true, eq-eqb, ne-eqb, cond-both, cond-true, cond-false, cases-bool}
 use Rattle.uart_text.specs.declared.number.Scan.{Scan}

@@ -1,8 +1,8 @@
--- A line has one content, and one list of words. Assumes nothing.
-use mathlib.Core.Path.{_≡_, refl, sym, ap, subst, _∙_}
-use mathlib.Core.Bool.{Bool, true, false}
+-- A line has one content, and one list of words.
+use mathlib.Core.Path.{_≡_, refl, sym, subst, _∙_}
+use mathlib.Core.Bool.{true, false}
 use mathlib.Core.List.{List, [], _∷_, _++_, append-assoc, append-nil}
-use mathlib.Core.Logic.{_≢_, _⊎_, inl, inr, ⊎-elim}
+use mathlib.Core.Logic.{_≢_, inl, inr, ⊎-elim}
 use Prim.Native.Nat.{ℕ}
 use native.Mathlib.Omega.{arith}
 use Rattle.std.specs.shelf.Lists.{All}
@@ -95,9 +95,9 @@ pub one-content : (line r t : List ℕ) → Content line r → Content line t �
 one-content line r t m n =
     ⊎-elim
     (λ p. ⊎-elim
-      (λ q. one-front (λ b. b ≢ 35) r t (35 ∷ p .0) (35 ∷ q .0) (sym (p .1) ∙ q .1) (p .2) (q .2) (λ h. h refl) (λ h. h refl) .0)
-      (λ q. absurd (no-comment r (p .0) (subst Uncommented (p .1) (q .0)))) n)
+    (λ q. one-front (λ b. b ≢ 35) r t (35 ∷ p .0) (35 ∷ q .0) (sym (p .1) ∙ q .1) (p .2) (q .2) (λ h. h refl) (λ h. h refl) .0)
+    (λ q. absurd (no-comment r (p .0) (subst Uncommented (p .1) (q .0)))) n)
     (λ p. ⊎-elim
-      (λ q. absurd (no-comment t (q .0) (subst Uncommented (q .1) (p .0))))
-      (λ q. one-end line r t (p .1) (q .1)) n)
+    (λ q. absurd (no-comment t (q .0) (subst Uncommented (q .1) (p .0))))
+    (λ q. one-end line r t (p .1) (q .1)) n)
     m

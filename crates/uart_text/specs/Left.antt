@@ -1,4 +1,4 @@
--- What reading the words of a line gives. Assumes nothing.
+-- What reading the words of a line gives.
 use mathlib.Core.Path.{_≡_}
 use mathlib.Core.Bool.{true}
 use mathlib.Core.List.{List, [], _∷_, map}

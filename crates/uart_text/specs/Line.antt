@@ -1,4 +1,4 @@
--- What of a line is read: no comment, and no line end. Assumes nothing.
+-- What of a line is read: no comment, and no line end.
 use mathlib.Core.Path.{_≡_}
 use mathlib.Core.List.{List, [], _∷_, _++_}
 use mathlib.Core.Logic.{_⊎_, _≢_}

@@ -1,4 +1,4 @@
--- What a decimal number is, and what it says. Assumes nothing.
+-- What a decimal number is, and what it says.
 use mathlib.Core.Path.{_≡_}
 use mathlib.Core.Bool.{Bool, true, cond}
 use mathlib.Core.List.{List, [], _∷_}
@@ -14,8 +14,8 @@ use Rattle.uart_text.specs.declared.number.NumberError.the-variants.{NotANumbe
 abbrev pub Digit : ℕ → Type 0
 Digit b = (48 ≤ b) × (b ≤ 57)
 
--- s is a numeral of n digits: `_` (95) may stand before any digit but the first, and, if and only if g says that
--- the numeral is grouped, `,` (44) stands wherever the digits to the right are a multiple of three, and nowhere else
+-- s is a numeral of n digits: a `_` (95) may stand between two digits, but if g is true, a `,` (44) stands between
+-- those two that have a multiple of three digits to their right; there is no other `,`
 pub data Numeral (g : Bool) : List ℕ → ℕ → Type 0 where
   last : {b : ℕ} → Digit b → Numeral g (b ∷ []) 1
   next : {b : ℕ} {s : List ℕ} {n : ℕ} → Digit b → Numeral g s n → (g ≡ true → n % 3 ≢ 0) → Numeral g (b ∷ s) (suc n)
@@ -39,7 +39,7 @@ value s = valueFrom 0 s
 abbrev pub Number : List ℕ → ℕ → Type 0
 Number s v = Form s × (v ≡ value s)
 
--- the answer to s where numbers up to `largest` are taken: the number; that it is too large; or that s is none
+-- the answer to s where numbers up to `largest` are taken: the number s; or s is a larger number; or s is no number
 abbrev pub Number-read : List ℕ → ℕ → Result ℕ NumberError → Type 0
 Number-read s largest (Ok v) = Number s v × (v ≤ largest)
 Number-read s largest (Err TooLarge) = (v : ℕ) × Number s v × (largest < v)

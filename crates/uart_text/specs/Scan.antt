@@ -1,5 +1,5 @@
--- How the form of a numeral is checked, from its right end. Only inner functions cite this. Assumes nothing.
-use mathlib.Core.Bool.{Bool, true, false, cond, _&&_}
+-- How the form of a numeral is checked, from its right end. Only inner functions cite this.
+use mathlib.Core.Bool.{Bool, cond, _&&_}
 use mathlib.Core.List.{List, [], _∷_}
 use Prim.Native.Nat.{ℕ, _+_, _%_}
 use lib.Dec.{eqb}

@@ -1,4 +1,4 @@
--- What a word is. Assumes nothing.
+-- What a word is.
 use mathlib.Core.Path.{_≡_}
 use mathlib.Core.Bool.{Bool, true, false, _||_}
 use mathlib.Core.List.{List, [], _∷_, _++_}

@@ -49,7 +49,7 @@ fn step(grouped: bool, state: Scan, byte: u8) -> Scan
     }
 }
 
-// Whether `text` is a numeral, with commas between its groups of three or with none.
+// Whether `text` is a numeral: with commas between its groups of three, or, where `grouped` is false, with none.
 fn is_numeral(text: &[u8], grouped: bool) -> bool
     ensures { λ r. ⌜ Decides r ((n : ℕ) × Numeral grouped (now (text .entry)) n) ⌝ }
 {
@@ -60,7 +60,7 @@ fn is_numeral(text: &[u8], grouped: bool) -> bool
     matches!(state, Scan::Digits(_))
 }
 
-// Whether `text` is a numeral.
+// Whether `text` is a numeral, with commas or with none.
 fn is_number(text: &[u8]) -> bool
     ensures { λ r. ⌜ Decides r (Form (now (text .entry))) ⌝ }
 {

@@ -2,7 +2,7 @@
 ghost use mathlib.Core.Path.{_≡_};
 ghost use mathlib.Core.Bool.{true, false, not};
 ghost use mathlib.Core.List.{[]};
-ghost use Prim.Native.Nat.{ℕ, _≤_, _<_};
+ghost use Prim.Native.Nat.{_≤_, _<_};
 ghost use lib.ListN.{length, getD, take};
 ghost use Rattle.std.specs.Of.Vec.{vec-items};
 ghost use Rattle.std.specs.Options.{Cases};
@@ -59,14 +59,14 @@ fn is_blank(byte: u8) -> bool
     byte == b' ' || byte == b'\t'
 }
 
-// How many bytes at the front of `text` are blank, or, where `kind` is false, are not.
-fn run_len(text: &[u8], kind: bool) -> usize
-    ensures within { λ r. ⌜ r ≤ length (now (text .entry)) ⌝ }
-    ensures all { λ r. ⌜ All-of kind (take r (now (text .entry))) ⌝ }
-    ensures stops { λ r. ⌜ (r < length (now (text .entry)) → blank (getD (now (text .entry)) r 0) ≡ not kind) ⌝ }
+// How many bytes at the front of `text` are blank, or, where `blanks` is false, are not.
+fn leading(text: &[u8], blanks: bool) -> usize
+    ensures bound { λ r. ⌜ r ≤ length (now (text .entry)) ⌝ }
+    ensures alike { λ r. ⌜ All-of blanks (take r (now (text .entry))) ⌝ }
+    ensures change { λ r. ⌜ (r < length (now (text .entry)) → blank (getD (now (text .entry)) r 0) ≡ not blanks) ⌝ }
 {
     let mut count = 0;
-    while count < text.len() && is_blank(text[count]) == kind {
+    while count < text.len() && is_blank(text[count]) == blanks {
         count += 1;
     }
     count
@@ -76,15 +76,15 @@ fn run_len(text: &[u8], kind: bool) -> usize
 fn cut_word<'a>(text: &'a [u8]) -> Option<(&'a [u8], &'a [u8])>
     ensures { λ r. ⌜ Cases r (All-of true (now (text .entry))) (λ p. Next-word (now (text .entry)) (now (p .0)) (now (p .1))) ⌝ }
 {
-    let (_, text) = text.split_at(run_len(text, true));
+    let (_, text) = text.split_at(leading(text, true));
     if text.is_empty() {
         return None;
     }
-    Some(text.split_at(run_len(text, false)))
+    Some(text.split_at(leading(text, false)))
 }
 
 // What is left to read of a line.
-#[derive(Clone, Copy, Debug)]
+#[derive(Clone, Copy)]
 pub struct Words<'a> {
     rest: &'a [u8],
 }

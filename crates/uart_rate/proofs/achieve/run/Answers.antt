@@ -21,6 +21,7 @@ cast-result-2 c =
 
 pub returns : need.returns
 returns c = record {
-    clock = refl;
-    divider = refl;
-    head = head-rate (c .args .q) (c .args .clk) (c .args .baud) (c .args .divider .prescaler) (sixteenths-of (c .args .divider)) (c .rate-rate .result) (c .excess-excess .result) (c .pre .law) (c .rate-rate .ensures) (c .excess-excess .ensures) }
+  clock = refl;
+  divider = refl;
+  head = head-rate (c .args .q) (c .args .clk) (c .args .baud) (c .args .divider .prescaler) (sixteenths-of (c .args .divider)) (c .rate-rate .result) (c .excess-excess .result) (c .pre .law) (c .rate-rate .ensures) (c .excess-excess .ensures);
+}

@@ -10,5 +10,6 @@ div-result c = positive (c .from-2 .result) (c .from-3 .result) (search needs) (
 
 pub returns : need.returns
 returns c = record {
-    least = simp (c .from .ensures, c .from-2 .ensures, c .from-3 .ensures) (ceiling (c .args .q) (c .args .clk) (c .args .baud) (search needs) (search needs) (search needs));
-    bound = omega (arith, div-le-self (c .from .result - 1) (c .from-2 .result * c .from-3 .result)) }
+  least = simp (c .from .ensures, c .from-2 .ensures, c .from-3 .ensures) (ceiling (c .args .q) (c .args .clk) (c .args .baud) (search needs) (search needs) (search needs));
+  bound = omega (arith, div-le-self (c .from .result - 1) (c .from-2 .result * c .from-3 .result));
+}

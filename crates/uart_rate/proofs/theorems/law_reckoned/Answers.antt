@@ -5,5 +5,6 @@ use Rattle.uart_rate.proofs.theorems.law_reckoned.Needs as need
 
 pub returns : need.returns
 returns c = record {
-    met = λ q clk baud hq hc hb. quotient q clk baud (prescaler-of q clk baud) hb (ceiling q clk baud hq hc hb);
-    alone = one-law }
+  met = λ q clk baud hq hc hb. quotient q clk baud (prescaler-of q clk baud) hb (ceiling q clk baud hq hc hb);
+  alone = one-law;
+}

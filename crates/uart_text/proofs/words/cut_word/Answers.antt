@@ -8,18 +8,18 @@ use Rattle.uart_text.proofs.words.cut_word.Needs as need
 
 pub returns-then-is-empty : need.returns-then-is-empty
 returns-then-is-empty c =
-    all-blank (c .args .text .now) (c .run-len .result) (c .run-len .ensures .all)
+    all-blank (c .args .text .now) (c .leading .result) (c .leading .ensures .alike)
     (ap length (sym (c .split-at .ensures .back)) ∙ true-eqb _ 0 (c .if-is-empty .ensures tt))
 
 pub returns : need.returns
 returns c =
     let t = c .split-at .result .1 .now in
     let pos : 0 < length t = omega (arith, false-eqb (length t) 0 (c .if-is-empty .ensures tt)) in
-    let blanks = c .run-len .ensures in
-    let word = c .run-len-2 .ensures in
-    cut (c .args .text .now) t (c .run-len .result) (c .run-len-2 .result)
-    (record { within = blanks .within; all = blanks .all; stops = blanks .stops })
+    let blanks = c .leading .ensures in
+    let word = c .leading-2 .ensures in
+    cut (c .args .text .now) t (c .leading .result) (c .leading-2 .result)
+    (record { bound = blanks .bound; alike = blanks .alike; change = blanks .change })
     (c .split-at .ensures .back) pos
-    (record { within = word .within; all = word .all; stops = word .stops })
+    (record { bound = word .bound; alike = word .alike; change = word .change })
     (c .split-at-2 .result .0 .now) (c .split-at-2 .result .1 .now)
     (c .split-at-2 .ensures .front) (c .split-at-2 .ensures .back)

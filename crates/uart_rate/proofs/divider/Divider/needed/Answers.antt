@@ -19,4 +19,5 @@ returns c =
     record {
       value = cc;
       bound = omega arith;
-      positive = λ h. positive (c .from .result) (c .from-2 .result) (search needs) (search needs) }
+      positive = λ h. positive (c .from .result) (c .from-2 .result) (search needs) (search needs);
+    }
