@@ -1,9 +1,10 @@
 // Tells which rate a head gets: `rate CHIP BAUD [CLK [TOLERANCE]]`, or one such query to a line from standard input.
+use rate_answer::answer::answer;
+use rate_answer::line::Line;
+use rate_answer::line::LineDisplay;
 use rate_query::ask::Asked;
 use rate_query::ask::ask;
 use rate_query::ask::read_line;
-use rate_query::line::Line;
-use rate_query::line::LineDisplay;
 use rate_query::query::Query;
 use std::env;
 use std::error::AnyError;
@@ -15,8 +16,10 @@ use std::io::Write;
 
 // The line that answers a query.
 fn answered(query: Query) -> Line {
-    let answer = query.answer();
-    Line { query, answer }
+    Line {
+        query,
+        answer: answer(&query),
+    }
 }
 
 // Answers the query that the arguments are; tells whether it could be read.

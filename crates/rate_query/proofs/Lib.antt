@@ -1,3 +1,2 @@
 pub mod Percents
 pub mod Places
-pub mod Sources

@@ -3,8 +3,6 @@ use Prim.Native.Nat.{ℕ}
 use lib.Chars.{codes}
 use Rattle.rate_query.specs.declared.chip.ChipName.{ChipName}
 use Rattle.rate_query.specs.declared.chip.ChipName.the-variants.{Esp32, Esp32c3, Esp32c6}
-use Rattle.uart_rate.specs.Generators.{esp32-limits, divided-limits}
-use Rattle.uart_rate.specs.declared.limits.Limits.{Limits}
 
 -- the word for a chip
 abbrev pub name-of : ChipName → List ℕ
@@ -17,9 +15,3 @@ abbrev pub clock-of : ChipName → ℕ
 clock-of Esp32 = 80000000
 clock-of Esp32c3 = 80000000
 clock-of Esp32c6 = 40000000
-
--- Q, P and I of a chip
-abbrev pub limits-of : ChipName → Limits
-limits-of Esp32 = esp32-limits
-limits-of Esp32c3 = divided-limits
-limits-of Esp32c6 = divided-limits

@@ -1,22 +1,6 @@
-// A query and its answer: which rate does the head get?
-ghost use mathlib.Core.Bool.{true};
-ghost use mathlib.Core.Path.{_≡_};
-ghost use Rattle.rate_query.specs.Chips.{limits-of};
-ghost use Rattle.rate_query.specs.Queries.{Answers};
+// A query: which rate does the head get?
 use super::chip::ChipName;
-use uart_rate::achieve::achieve;
-use uart_rate::achieved::Achieved;
-use uart_rate::clocks::Clocks;
 use uart_rate::config::BaudrateTolerance;
-use uart_rate::config::Config;
-use uart_rate::esp32::Esp32;
-use uart_rate::esp32::Esp32Generator;
-use uart_rate::esp32c3::Esp32c3;
-use uart_rate::esp32c3::Esp32c3Generator;
-use uart_rate::esp32c6::Esp32c6;
-use uart_rate::esp32c6::Esp32c6Generator;
-use uart_rate::generator::BaudGenerator;
-use uart_rate::refusal::Refusal;
 
 #[derive(Clone, Copy)]
 pub struct Query {
@@ -25,36 +9,4 @@ pub struct Query {
     pub baud: u32,
     // none: any rate is near enough
     pub tolerance: Option<BaudrateTolerance>,
-}
-
-// The answer on the chip that the query names, whose every source runs at the query's clock.
-fn answer_on<G: BaudGenerator>(query: &Query) -> Result<Achieved, Refusal>
-    requires limits { ⌜ limits-of (now query .chip) ≡ G·BaudGenerator .limits ⌝ }
-    requires source { ⌜ G·BaudGenerator .has (G·BaudGenerator .preset) ≡ true ⌝ }
-    ensures { λ r. ⌜ Answers (now (query .entry)) r ⌝ }
-{
-    let mut config = Config::from_source(G::default_source());
-    config.baudrate = query.baud;
-    config.baudrate_tolerance = query.tolerance.unwrap_or(BaudrateTolerance::Closest);
-    let clk = query.clk;
-    let clocks = Clocks {
-        apb_clock: clk,
-        rc_fast_clock: clk,
-        xtal_clock: clk,
-        ref_tick: clk,
-    };
-    achieve::<G>(&config, &clocks)
-}
-
-impl Query {
-    // Which rate the head gets, or why it gets none.
-    pub fn answer(&self) -> Result<Achieved, Refusal>
-        ensures { λ r. ⌜ Answers (now (self .entry)) r ⌝ }
-    {
-        match self.chip {
-            ChipName::Esp32 => answer_on::<Esp32>(self),
-            ChipName::Esp32c3 => answer_on::<Esp32c3>(self),
-            ChipName::Esp32c6 => answer_on::<Esp32c6>(self),
-        }
-    }
 }

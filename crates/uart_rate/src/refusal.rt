@@ -1,6 +1,6 @@
 // Why a call is refused. Every layer shares this one list; `docs/REFUSALS.md` tells when each is given.
 ghost use mathlib.Core.Path.{_≡_};
-ghost use Rattle.uart_rate.specs.Refusals.{number-of, name-of};
+ghost use Rattle.uart_rate.specs.Refusals.{number-of};
 
 #[derive(Clone, Copy, PartialEq, Eq, Debug)]
 pub enum Refusal {
@@ -42,29 +42,6 @@ impl Refusal {
             Refusal::GlitchOccurred => 22,
             Refusal::FrameFormatViolated => 23,
             Refusal::ParityMismatch => 24,
-        }
-    }
-
-    // The name that is printed behind the number.
-    pub fn name(self) -> &'static str
-        ensures { λ r. ⌜ now r ≡ name-of self ⌝ }
-    {
-        match self {
-            Refusal::PercentOutOfRange => "PercentOutOfRange",
-            Refusal::BaudrateNotSupported => "BaudrateNotSupported",
-            Refusal::ClockNotUsable => "ClockNotUsable",
-            Refusal::DividerOutOfRange => "DividerOutOfRange",
-            Refusal::UpdateTimedOut => "UpdateTimedOut",
-            Refusal::BaudrateNotAchievable => "BaudrateNotAchievable",
-            Refusal::RxFifoThresholdNotSupported => "RxFifoThresholdNotSupported",
-            Refusal::TimeoutTooLong => "TimeoutTooLong",
-            Refusal::TxFifoThresholdNotSupported => "TxFifoThresholdNotSupported",
-            Refusal::WaitOpen => "WaitOpen",
-            Refusal::NoSuchWait => "NoSuchWait",
-            Refusal::FifoOverflowed => "FifoOverflowed",
-            Refusal::GlitchOccurred => "GlitchOccurred",
-            Refusal::FrameFormatViolated => "FrameFormatViolated",
-            Refusal::ParityMismatch => "ParityMismatch",
         }
     }
 }

@@ -125,30 +125,3 @@ pub fn split_words<'a>(heap: Global, line: &'a [u8]) -> Result<Vec<&'a [u8]>, Al
     }
     Ok(all)
 }
-
-#[cfg(test)]
-mod tests {
-    use super::*;
-    use std::test::*;
-
-    #[test]
-    fn content_of_lines() -> Result<(), Fail> {
-        for line in "a b|a b\n|a b\r\n|a b\r|a b#|a b# c # d\r\n|a b##".split('|') {
-            check_eq(content(line.as_bytes()), b"a b")?;
-        }
-        check_eq(content(b"a\r\n#"), b"a\r\n")?;
-        check_eq(content(b"a\r\r\n"), b"a\r")?;
-        check_eq(content(b"a\n\r"), b"a\n")
-    }
-
-    #[test]
-    fn words_of_a_line(rt: LibcRuntime) -> Result<(), Fail> {
-        let line = b" baud\t 9600 x\t";
-        let mut left = Words::new(line);
-        for word in "baud 9600 x".split(' ') {
-            check_eq(left.next_word().ok_or("too few words")?, word.as_bytes())?;
-        }
-        check(left.next_word().is_none())?;
-        check_eq(split_words(rt.alloc(), line)?.len(), 3)
-    }
-}

@@ -1,8 +1,9 @@
 // The line that answers a query.
 ghost use Rattle.std.specs.declared.option.Option.the-variants.{Some};
-ghost use Rattle.rate_query.specs.Lines.{percent-text, tolerance-text, answer-text, line-text};
-use super::query::Query;
+ghost use Rattle.rate_answer.specs.Lines.{percent-text, tolerance-text, answer-text, line-text};
+use rate_query::query::Query;
 use std::fmt;
+use uart_names::refusals::refusal_name;
 use uart_rate::achieved::Achieved;
 use uart_rate::config::BaudrateTolerance;
 use uart_rate::refusal::Refusal;
@@ -64,7 +65,7 @@ pub impl fmt::Display for Answer as AnswerDisplay {
             }
             Err(refusal) => {
                 let number = refusal.number();
-                let name = refusal.name();
+                let name = refusal_name(refusal);
                 write!(f, "refused {number} {name}")
             }
         }

@@ -7,13 +7,14 @@ use Rattle.std.specs.declared.option.Option.the-variants.{None, Some}
 use Rattle.std.specs.declared.result.Result.{Result}
 use Rattle.std.specs.declared.result.Result.the-variants.{Ok, Err}
 use Rattle.uart_rate.specs.Rates.{sixteenths-of}
-use Rattle.uart_rate.specs.Refusals as refusals
+use Rattle.uart_names.specs.Refusals.{refusal-name}
+use Rattle.uart_rate.specs.Refusals.{number-of}
 use Rattle.uart_rate.specs.declared.achieved.Achieved.{Achieved}
 use Rattle.uart_rate.specs.declared.config.BaudrateTolerance.{BaudrateTolerance}
 use Rattle.uart_rate.specs.declared.config.BaudrateTolerance.the-variants.{Closest, Exact, ErrorPercent}
 use Rattle.uart_rate.specs.declared.refusal.Refusal.{Refusal}
 use Rattle.rate_query.specs.Chips.{name-of}
 use Rattle.rate_query.specs.declared.query.Query.{Query}
 
 -- so many millionths, as percent with four decimals
 abbrev pub percent-text : ℕ → List ℕ
@@ -31,7 +32,7 @@ abbrev pub answer-text : Result Achieved Refusal → List ℕ
 answer-text (Ok a) =
     codes "p " ++ (decimal (a .divider .prescaler) ++ (codes " d " ++ (decimal (sixteenths-of (a .divider)) ++ (codes " (" ++ (decimal (a .divider .integer) ++
     (codes " + " ++ (decimal (a .divider .fraction) ++ (codes "/16) rate " ++ (decimal (a .rate) ++ (codes " fast by " ++ percent-text (a .excess)))))))))))
-answer-text (Err e) = codes "refused " ++ (decimal (refusals.number-of e) ++ (codes " " ++ refusals.name-of e))
+answer-text (Err e) = codes "refused " ++ (decimal (number-of e) ++ (codes " " ++ refusal-name e))
 
 -- the line of a query and its answer
 abbrev pub line-text : Query → Result Achieved Refusal → List ℕ

@@ -1,8 +1,8 @@
 use borrow.Author.Needs.{needs}
 use mathlib.Core.Bool.{true}
 use mathlib.Core.Path.{_≡_, _∙_, ap, sym}
-use Rattle.rate_query.proofs.Sources.{all-alike}
-use Rattle.rate_query.proofs.query.answer_on.Needs as need
+use Rattle.rate_answer.proofs.Sources.{all-alike}
+use Rattle.rate_answer.proofs.answer.answer_on.Needs as need
 
 pub returns : need.returns
 returns g c =

@@ -1,0 +1,4 @@
+// Answers queries about rates, and prints the answers.
+
+pub mod answer;
+pub mod line;

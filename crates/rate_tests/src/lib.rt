@@ -1,0 +1,10 @@
+// Tests of the rate rules and of the reading of queries, on values reckoned by hand.
+
+#[cfg(test)]
+mod numbers;
+#[cfg(test)]
+mod queries;
+#[cfg(test)]
+mod rates;
+#[cfg(test)]
+mod words;

@@ -1,0 +1,3 @@
+// The names that the programs print.
+
+pub mod refusals;
