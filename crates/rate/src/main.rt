@@ -1,11 +1,9 @@
 // Tells which rate a head gets: `rate CHIP BAUD [CLK [TOLERANCE]]`, or one such query to a line from standard input.
-use rate_answer::answer::answer;
 use rate_answer::line::Line;
 use rate_answer::line::LineDisplay;
 use rate_query::ask::Asked;
 use rate_query::ask::ask;
 use rate_query::ask::read_line;
-use rate_query::query::Query;
 use std::env;
 use std::error::AnyError;
 use std::io;
@@ -13,14 +11,6 @@ use std::io::BufRead;
 use std::io::BufReader;
 use std::io::BufWriter;
 use std::io::Write;
-
-// The line that answers a query.
-fn answered(query: Query) -> Line {
-    Line {
-        query,
-        answer: answer(&query),
-    }
-}
 
 // Answers the query that the arguments are; tells whether it could be read.
 fn answer_arguments(rt: &LibcRuntime, arguments: &Vec<String>) -> io::Result<bool> {
@@ -31,7 +21,7 @@ fn answer_arguments(rt: &LibcRuntime, arguments: &Vec<String>) -> io::Result<boo
     match ask(words.as_slice()) {
         Asked::Nothing => Ok(true),
         Asked::Query(query) => {
-            let line = answered(query);
+            let line = Line::new(query);
             println!(rt, "{line}")?;
             Ok(true)
         }
@@ -53,7 +43,7 @@ fn answer_line(
     match read_line(rt.alloc(), line)? {
         Asked::Nothing => Ok(true),
         Asked::Query(query) => {
-            let line = answered(query);
+            let line = Line::new(query);
             writeln!(out, "{line}")?;
             Ok(true)
         }

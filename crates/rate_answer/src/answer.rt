@@ -1,5 +1,4 @@
 // The answer to a query.
-ghost use mathlib.Core.Bool.{true};
 ghost use mathlib.Core.Path.{_≡_};
 ghost use Rattle.rate_answer.specs.Answering.{limits-of, Answers};
 use rate_query::chip::ChipName;
@@ -20,8 +19,7 @@ use uart_rate::refusal::Refusal;
 
 // The answer on the chip that the query names, whose every source runs at the query's clock.
 fn answer_on<G: BaudGenerator>(query: &Query) -> Result<Achieved, Refusal>
-    requires limits { ⌜ limits-of (now query .chip) ≡ G·BaudGenerator .limits ⌝ }
-    requires source { ⌜ G·BaudGenerator .has (G·BaudGenerator .preset) ≡ true ⌝ }
+    requires { ⌜ limits-of (now query .chip) ≡ G·BaudGenerator .limits ⌝ }
     ensures { λ r. ⌜ Answers (now (query .entry)) r ⌝ }
 {
     let mut config = Config::from_source(G::default_source());

@@ -1,6 +1,9 @@
 // The line that answers a query.
 ghost use Rattle.std.specs.declared.option.Option.the-variants.{Some};
+ghost use mathlib.Core.Path.{_≡_};
+ghost use Rattle.rate_answer.specs.Answering.{Answers};
 ghost use Rattle.rate_answer.specs.Lines.{percent-text, tolerance-text, answer-text, line-text};
+use super::answer::answer;
 use rate_query::query::Query;
 use std::fmt;
 use uart_names::refusals::refusal_name;
@@ -77,6 +80,19 @@ pub impl fmt::Display for Answer as AnswerDisplay {
 pub struct Line {
     pub query: Query,
     pub answer: Result<Achieved, Refusal>,
+}
+
+impl Line {
+    // The line that answers a query.
+    pub fn new(query: Query) -> Line
+        ensures query { λ r. ⌜ r .query ≡ query ⌝ }
+        ensures answer { λ r. ⌜ Answers query (r .answer) ⌝ }
+    {
+        Line {
+            query,
+            answer: answer(&query),
+        }
+    }
 }
 
 pub impl fmt::Display for Line as LineDisplay {

@@ -1,5 +1,5 @@
 // A baud rate generator, by what its chip states about it.
-ghost use mathlib.Core.Bool.{Bool};
+ghost use mathlib.Core.Bool.{Bool, true};
 ghost use mathlib.Core.Path.{_≡_};
 ghost use Rattle.uart_rate.specs.Limits.{In-range};
 ghost use Rattle.uart_rate.specs.declared.config.ClockSource.{ClockSource};
@@ -24,6 +24,9 @@ pub trait BaudGenerator {
     ghost preset: { ClockSource };
 
     law ranges: { In-range limits };
+
+    // the chip has its default source
+    law present: { has preset ≡ true };
 
     fn limits() -> Limits
         ensures { λ r. ⌜ r ≡ limits ⌝ };
