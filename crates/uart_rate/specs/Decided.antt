@@ -1,6 +1,6 @@
 use mathlib.Core.Bool.{Bool}
 use mathlib.Core.Path.{_≡_}
-use Prim.Native.Nat.{ℕ, _≤_}
+use Prim.Native.Nat.{ℕ, _*_, _≤_}
 use Rattle.std.specs.declared.result.Result.{Result}
 use Rattle.std.specs.declared.result.Result.the-variants.{Ok, Err}
 use Rattle.uart_rate.specs.declared.achieved.Achieved.{Achieved}
@@ -16,6 +16,10 @@ use Rattle.uart_rate.specs.Rates.{Rate-law, prescaler-of, divisor-of}
 pub record Law-reckoned : Type 0 where
   pub met : (q clk baud : ℕ) → 1 ≤ q → 1 ≤ clk → 1 ≤ baud → Rate-law q clk baud (prescaler-of q clk baud) (divisor-of clk baud (prescaler-of q clk baud))
   pub alone : (q clk baud p d p′ d′ : ℕ) → Rate-law q clk baud p d → Rate-law q clk baud p′ d′ → (p ≡ p′) × (d ≡ d′)
+
+-- under a prescaler of 2 or more the divider is at least 8 × q, so the head is faster than asked by less than one part in 8 × q
+abbrev pub Finely-divided : Type 0
+Finely-divided = (q clk baud p d : ℕ) → Rate-law q clk baud p d → 2 ≤ p → 8 * q ≤ d
 
 -- two dividers with the same numbers
 pub record Same-divider (v w : Divider) : Type 0 where
