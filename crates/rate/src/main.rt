@@ -62,8 +62,8 @@ fn answer_input(rt: &LibcRuntime) -> io::Result<bool> {
     let mut line: Vec<u8> = Vec::new(rt.alloc());
     let mut all_read = true;
     for number in 1..u64::MAX {
-        // Whoever types the queries sees each answer at once; a file's answers are written in blocks.
-        if input.buffer().is_empty() {
+        // Before the program waits for input it writes its answers, so whoever types queries sees each answer at once; a file's answers are written in blocks.
+        if !input.buffer().contains(&b'\n') {
             out.flush()?;
         }
         line.clear();
@@ -85,6 +85,13 @@ fn run(rt: &LibcRuntime) -> io::Result<bool> {
     }
     if arguments.is_empty() {
         return answer_input(rt);
+    }
+    if arguments.len() == 1 && arguments[0].as_str() == "--help" {
+        println!(
+            rt,
+            "usage: rate CHIP BAUD [CLK [TOLERANCE]], or queries on standard input, one to a line"
+        )?;
+        return Ok(true);
     }
     answer_arguments(rt, &arguments)
 }

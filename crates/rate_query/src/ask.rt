@@ -1,10 +1,12 @@
 // Reads a query from a line of text.
-ghost use mathlib.Core.List.{[]};
+ghost use mathlib.Core.List.{List, []};
+ghost use Prim.Native.Nat.{ℕ};
 ghost use mathlib.Core.Path.{_≡_};
 ghost use Rattle.std.specs.Orderings.{Decides};
 ghost use Rattle.std.specs.Vec.{made};
 ghost use Rattle.rate_query.specs.Asking.{Asks, Line-read};
 ghost use Rattle.uart_text.specs.Left.{texts};
+ghost use Rattle.uart_text.specs.Line.{Content};
 use super::error::QueryError;
 use super::query::Query;
 use super::read::read_query;
@@ -42,10 +44,18 @@ pub fn ask(words: &[&[u8]]) -> Asked
     }
 }
 
+// What the words of a text ask, and so every line that has this text.
+fn read_text(heap: Global, text: &[u8]) -> Result<Asked, AllocError>
+    ensures { λ r. ⌜ made r (λ a. (line : List ℕ) → Content line (now (text .entry)) → Line-read line a) ⌝ }
+{
+    let words = split_words(heap, text)?;
+    Ok(ask(words.as_slice()))
+}
+
 // What the words of a line ask, up to a `#` or the line's end.
 pub fn read_line(heap: Global, line: &[u8]) -> Result<Asked, AllocError>
     ensures { λ r. ⌜ made r (Line-read (now (line .entry))) ⌝ }
 {
-    let words = split_words(heap, content(line))?;
-    Ok(ask(words.as_slice()))
+    let asked = read_text(heap, content(line))?;
+    Ok(asked)
 }

@@ -163,7 +163,7 @@ fn nth_word<'a>(words: &[&'a [u8]], i: usize) -> Option<&'a [u8]>
     }
 }
 
-// Reads a query from two to four words.
+// Reads a query from its first four words, of which the first two are there.
 fn read_words(words: &[&[u8]]) -> Result<Query, QueryError>
     requires { ⌜ 2 ≤ length (texts (now words)) ⌝ }
     ensures { λ r. ⌜ Words-read (getD (texts (now (words .entry))) 0 []) (getD (texts (now (words .entry))) 1 []) (word-at 2 (texts (now (words .entry)))) (word-at 3 (texts (now (words .entry)))) r ⌝ }

@@ -13,7 +13,7 @@ use Rattle.uart_rate.specs.declared.limits.Limits.{Limits}
 use Rattle.uart_rate.specs.declared.refusal.Refusal.the-variants.{DividerOutOfRange}
 use Rattle.uart_rate.specs.Achieving.{Achieves, refused, not-achievable, achieved, Too-fast}
 use Rattle.uart_rate.specs.Examples.{Worked-examples}
-use Rattle.uart_rate.specs.Generators.{esp32-limits, divided-limits}
+use Rattle.uart_rate.specs.Generators.{esp32-limits, prescaled-limits}
 use Rattle.uart_rate.specs.Judging.{Judged, accepted, divider-out-of-range, Percent-in-range, Clock-usable, prescaler-too-large, Out-of-bounds, divider-zero, integer-too-large}
 use Rattle.uart_rate.specs.Rates.{Rate-law, Whole-part, sixteenths-of, prescaler-of, divisor-of}
 use Rattle.uart_rate.proofs.Heads.{head-rate}
@@ -91,12 +91,12 @@ by-1-1 = record { prescaler = 1; integer = 0; fraction = 1; prescales = (lit≤ 
 
 pub worked-examples : Worked-examples
 worked-examples = record {
-  c3-115200 = (head 80000000 by-1-11111 115201 10, runs divided-limits 80000000 115200 Closest by-1-11111 115201 10 (record { percent = tt; q = lit≤ tt; runs = lit≤ tt; slow = lit< tt; baud-least = lit≤ tt; baud-most = lit≤ tt; prescaler = refl; divisor = refl; prescaler-fits = lit≤ tt; integer-fits = lit≤ tt }) (λ x. x) (record { reached = lit≤ tt; not-more = lit< tt }) (record { reached = lit≤ tt; not-more = lit< tt }), ((refl, refl), refl));
-  c3-9600 = (head 80000000 by-3-44444 9600 10, runs divided-limits 80000000 9600 Closest by-3-44444 9600 10 (record { percent = tt; q = lit≤ tt; runs = lit≤ tt; slow = lit< tt; baud-least = lit≤ tt; baud-most = lit≤ tt; prescaler = refl; divisor = refl; prescaler-fits = lit≤ tt; integer-fits = lit≤ tt }) (λ x. x) (record { reached = lit≤ tt; not-more = lit< tt }) (record { reached = lit≤ tt; not-more = lit< tt }), ((refl, refl), refl));
-  c3-last-undivided = (head 39302400 by-1-65504 9600 0, runs divided-limits 39302400 9600 Closest by-1-65504 9600 0 (record { percent = tt; q = lit≤ tt; runs = lit≤ tt; slow = lit< tt; baud-least = lit≤ tt; baud-most = lit≤ tt; prescaler = refl; divisor = refl; prescaler-fits = lit≤ tt; integer-fits = lit≤ tt }) (λ x. x) (record { reached = lit≤ tt; not-more = lit< tt }) (record { reached = lit≤ tt; not-more = lit< tt }), (refl, refl));
-  c3-first-divided = (head 39302401 by-2-32752 9600 0, runs divided-limits 39302401 9600 Closest by-2-32752 9600 0 (record { percent = tt; q = lit≤ tt; runs = lit≤ tt; slow = lit< tt; baud-least = lit≤ tt; baud-most = lit≤ tt; prescaler = refl; divisor = refl; prescaler-fits = lit≤ tt; integer-fits = lit≤ tt }) (λ x. x) (record { reached = lit≤ tt; not-more = lit< tt }) (record { reached = lit≤ tt; not-more = lit< tt }), (refl, refl));
-  c3-slowest = (head 80000000 by-254-65446 77 5, runs divided-limits 80000000 77 Closest by-254-65446 77 5 (record { percent = tt; q = lit≤ tt; runs = lit≤ tt; slow = lit< tt; baud-least = lit≤ tt; baud-most = lit≤ tt; prescaler = refl; divisor = refl; prescaler-fits = lit≤ tt; integer-fits = lit≤ tt }) (λ x. x) (record { reached = lit≤ tt; not-more = lit< tt }) (record { reached = lit≤ tt; not-more = lit< tt }), (refl, refl));
-  c3-too-slow = refuses divided-limits 80000000 76 (lit≤ tt) (lit< tt) (lit≤ tt) (lit≤ tt) (prescaler-too-large 258 (ceiling 4094 80000000 76 (lit≤ tt) (lit≤ tt) (lit≤ tt)) (lit< tt));
+  c3-115200 = (head 80000000 by-1-11111 115201 10, runs prescaled-limits 80000000 115200 Closest by-1-11111 115201 10 (record { percent = tt; q = lit≤ tt; runs = lit≤ tt; slow = lit< tt; baud-least = lit≤ tt; baud-most = lit≤ tt; prescaler = refl; divisor = refl; prescaler-fits = lit≤ tt; integer-fits = lit≤ tt }) (λ x. x) (record { reached = lit≤ tt; not-more = lit< tt }) (record { reached = lit≤ tt; not-more = lit< tt }), ((refl, refl), refl));
+  c3-9600 = (head 80000000 by-3-44444 9600 10, runs prescaled-limits 80000000 9600 Closest by-3-44444 9600 10 (record { percent = tt; q = lit≤ tt; runs = lit≤ tt; slow = lit< tt; baud-least = lit≤ tt; baud-most = lit≤ tt; prescaler = refl; divisor = refl; prescaler-fits = lit≤ tt; integer-fits = lit≤ tt }) (λ x. x) (record { reached = lit≤ tt; not-more = lit< tt }) (record { reached = lit≤ tt; not-more = lit< tt }), ((refl, refl), refl));
+  c3-last-undivided = (head 39302400 by-1-65504 9600 0, runs prescaled-limits 39302400 9600 Closest by-1-65504 9600 0 (record { percent = tt; q = lit≤ tt; runs = lit≤ tt; slow = lit< tt; baud-least = lit≤ tt; baud-most = lit≤ tt; prescaler = refl; divisor = refl; prescaler-fits = lit≤ tt; integer-fits = lit≤ tt }) (λ x. x) (record { reached = lit≤ tt; not-more = lit< tt }) (record { reached = lit≤ tt; not-more = lit< tt }), (refl, refl));
+  c3-first-divided = (head 39302401 by-2-32752 9600 0, runs prescaled-limits 39302401 9600 Closest by-2-32752 9600 0 (record { percent = tt; q = lit≤ tt; runs = lit≤ tt; slow = lit< tt; baud-least = lit≤ tt; baud-most = lit≤ tt; prescaler = refl; divisor = refl; prescaler-fits = lit≤ tt; integer-fits = lit≤ tt }) (λ x. x) (record { reached = lit≤ tt; not-more = lit< tt }) (record { reached = lit≤ tt; not-more = lit< tt }), (refl, refl));
+  c3-slowest = (head 80000000 by-254-65446 77 5, runs prescaled-limits 80000000 77 Closest by-254-65446 77 5 (record { percent = tt; q = lit≤ tt; runs = lit≤ tt; slow = lit< tt; baud-least = lit≤ tt; baud-most = lit≤ tt; prescaler = refl; divisor = refl; prescaler-fits = lit≤ tt; integer-fits = lit≤ tt }) (λ x. x) (record { reached = lit≤ tt; not-more = lit< tt }) (record { reached = lit≤ tt; not-more = lit< tt }), (refl, refl));
+  c3-too-slow = refuses prescaled-limits 80000000 76 (lit≤ tt) (lit< tt) (lit≤ tt) (lit≤ tt) (prescaler-too-large 258 (ceiling 4094 80000000 76 (lit≤ tt) (lit≤ tt) (lit≤ tt)) (lit< tt));
   esp32-slowest = (head 80000000 by-1-16623376 77 0, runs esp32-limits 80000000 77 Closest by-1-16623376 77 0 (record { percent = tt; q = lit≤ tt; runs = lit≤ tt; slow = lit< tt; baud-least = lit≤ tt; baud-most = lit≤ tt; prescaler = refl; divisor = refl; prescaler-fits = lit≤ tt; integer-fits = lit≤ tt }) (λ x. x) (record { reached = lit≤ tt; not-more = lit< tt }) (record { reached = lit≤ tt; not-more = lit< tt }), (refl, refl));
   esp32-too-slow = refuses esp32-limits 80000000 76 (lit≤ tt) (lit< tt) (lit≤ tt) (lit≤ tt) (integer-too-large 1 16842105 (law 268435456 80000000 76 (lit≤ tt) (lit≤ tt) (lit≤ tt)) (lit≤ tt) (lit< tt));
   esp32-fast = (head 1000000 by-1-3 5333333 66666, runs esp32-limits 1000000 5000000 Closest by-1-3 5333333 66666 (record { percent = tt; q = lit≤ tt; runs = lit≤ tt; slow = lit< tt; baud-least = lit≤ tt; baud-most = lit≤ tt; prescaler = refl; divisor = refl; prescaler-fits = lit≤ tt; integer-fits = lit≤ tt }) (λ x. x) (record { reached = lit≤ tt; not-more = lit< tt }) (record { reached = lit≤ tt; not-more = lit< tt }), ((refl, refl), refl));

@@ -7,10 +7,14 @@ use Rattle.std.specs.declared.result.Result.the-variants.{Ok, Err}
 use Rattle.uart_rate.specs.declared.achieved.Achieved.{Achieved}
 use Rattle.uart_rate.specs.declared.config.BaudrateTolerance.{BaudrateTolerance}
 use Rattle.uart_rate.specs.declared.config.BaudrateTolerance.the-variants.{Closest, Exact, ErrorPercent}
+use Rattle.uart_rate.specs.declared.clocks.Clocks.{Clocks}
+use Rattle.uart_rate.specs.declared.config.ClockSource.{ClockSource}
+use Rattle.uart_rate.specs.declared.config.Config.{Config}
 use Rattle.uart_rate.specs.declared.divider.Divider.{Divider}
 use Rattle.uart_rate.specs.declared.limits.Limits.{Limits}
 use Rattle.uart_rate.specs.declared.refusal.Refusal.{Refusal}
 use Rattle.uart_rate.specs.declared.refusal.Refusal.the-variants.{BaudrateNotAchievable}
+use Rattle.uart_rate.specs.Clocks.{hertz-of}
 use Rattle.uart_rate.specs.Judging.{Judged}
 use Rattle.uart_rate.specs.Rates.{Head-rate, sixteenths-of}
 
@@ -36,3 +40,8 @@ pub data Achieves (l : Limits) (has : Bool) (clk baud : ℕ) (t : BaudrateTolera
   refused : ErrBy r (λ e. Judged l has clk baud t (Err e)) → Achieves l has clk baud t r
   not-achievable : (v : Divider) → Judged l has clk baud t (Ok v) → Too-fast t clk baud v → r ≡ Err BaudrateNotAchievable → Achieves l has clk baud t r
   achieved : (v : Divider) → Judged l has clk baud t (Ok v) → (Too-fast t clk baud v → ⊥) → OkBy r (Runs clk baud v) → Achieves l has clk baud t r
+
+-- the same of a configuration and a record of clocks, on a chip that has some of the sources
+abbrev pub Gets : Limits → (ClockSource → Bool) → Config → Clocks → Result Achieved Refusal → Type 0
+Gets l has config clocks r =
+    Achieves l (has (config .«clock_source»)) (hertz-of clocks (config .«clock_source»)) (config .baudrate) (config .«baudrate_tolerance») r

@@ -9,7 +9,7 @@ use Rattle.uart_rate.specs.declared.limits.Limits.{Limits}
 use Rattle.uart_rate.specs.declared.refusal.Refusal.{Refusal}
 use Rattle.uart_rate.specs.declared.refusal.Refusal.the-variants.{DividerOutOfRange, BaudrateNotAchievable}
 use Rattle.uart_rate.specs.Achieving.{Achieves}
-use Rattle.uart_rate.specs.Generators.{esp32-limits, divided-limits}
+use Rattle.uart_rate.specs.Generators.{esp32-limits, prescaled-limits}
 use Rattle.uart_rate.specs.Rates.{sixteenths-of}
 
 -- a clock and a baud rate are accepted, and what the head gets is so
@@ -31,14 +31,14 @@ Rate-is p d r a = Divider-is p d a × (a .rate ≡ r)
 -- worked examples, reckoned by hand
 pub record Worked-examples : Type 0 where
   -- a chip with a prescaler, at 80 MHz
-  pub c3-115200 : Accepted divided-limits 80000000 115200 Closest (Rate-is 1 11111 115201)
-  pub c3-9600 : Accepted divided-limits 80000000 9600 Closest (Rate-is 3 44444 9600)
+  pub c3-115200 : Accepted prescaled-limits 80000000 115200 Closest (Rate-is 1 11111 115201)
+  pub c3-9600 : Accepted prescaled-limits 80000000 9600 Closest (Rate-is 3 44444 9600)
   -- the last clock that needs no prescaler at 9,600 baud, and the first that does
-  pub c3-last-undivided : Accepted divided-limits 39302400 9600 Closest (Divider-is 1 65504)
-  pub c3-first-divided : Accepted divided-limits 39302401 9600 Closest (Divider-is 2 32752)
+  pub c3-last-undivided : Accepted prescaled-limits 39302400 9600 Closest (Divider-is 1 65504)
+  pub c3-first-divided : Accepted prescaled-limits 39302401 9600 Closest (Divider-is 2 32752)
   -- the slowest rates at 80 MHz
-  pub c3-slowest : Accepted divided-limits 80000000 77 Closest (Divider-is 254 65446)
-  pub c3-too-slow : Refused divided-limits 80000000 76 Closest DividerOutOfRange
+  pub c3-slowest : Accepted prescaled-limits 80000000 77 Closest (Divider-is 254 65446)
+  pub c3-too-slow : Refused prescaled-limits 80000000 76 Closest DividerOutOfRange
   pub esp32-slowest : Accepted esp32-limits 80000000 77 Closest (Divider-is 1 16623376)
   pub esp32-too-slow : Refused esp32-limits 80000000 76 Closest DividerOutOfRange
   -- the head runs 6.67 percent faster than asked

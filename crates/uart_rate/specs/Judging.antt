@@ -7,10 +7,14 @@ use Rattle.std.specs.declared.result.Result.{Result}
 use Rattle.std.specs.declared.result.Result.the-variants.{Err}
 use Rattle.uart_rate.specs.declared.config.BaudrateTolerance.{BaudrateTolerance}
 use Rattle.uart_rate.specs.declared.config.BaudrateTolerance.the-variants.{Closest, Exact, ErrorPercent}
+use Rattle.uart_rate.specs.declared.clocks.Clocks.{Clocks}
+use Rattle.uart_rate.specs.declared.config.ClockSource.{ClockSource}
+use Rattle.uart_rate.specs.declared.config.Config.{Config}
 use Rattle.uart_rate.specs.declared.divider.Divider.{Divider}
 use Rattle.uart_rate.specs.declared.limits.Limits.{Limits}
 use Rattle.uart_rate.specs.declared.refusal.Refusal.{Refusal}
 use Rattle.uart_rate.specs.declared.refusal.Refusal.the-variants.{PercentOutOfRange, BaudrateNotSupported, ClockNotUsable, DividerOutOfRange}
+use Rattle.uart_rate.specs.Clocks.{hertz-of}
 use Rattle.uart_rate.specs.Rates.{Least-prescaler, Rate-law, sixteenths-of}
 
 -- a tolerance in percent is 1 to 100; the other tolerances name no percent
@@ -62,3 +66,8 @@ pub data Judged (l : Limits) (has : Bool) (clk baud : ℕ) (t : BaudrateToleranc
   clock-not-usable : Percent-in-range t → Baud-in-range baud → Clock-unusable has clk → r ≡ Err ClockNotUsable → Judged l has clk baud t r
   divider-out-of-range : Percent-in-range t → Baud-in-range baud → Clock-usable has clk → Out-of-bounds l clk baud → r ≡ Err DividerOutOfRange → Judged l has clk baud t r
   accepted : Percent-in-range t → Baud-in-range baud → Clock-usable has clk → OkBy r (Divides l clk baud) → Judged l has clk baud t r
+
+-- the same of a configuration and a record of clocks, on a chip that has some of the sources
+abbrev pub Judges : Limits → (ClockSource → Bool) → Config → Clocks → Result Divider Refusal → Type 0
+Judges l has config clocks r =
+    Judged l (has (config .«clock_source»)) (hertz-of clocks (config .«clock_source»)) (config .baudrate) (config .«baudrate_tolerance») r

@@ -3,10 +3,9 @@ ghost use mathlib.Core.Path.{_≡_};
 ghost use lib.Dec.{ltb};
 ghost use Prim.Native.Nat.{ℕ, _+_, _-_, _*_, _<_, _≤_, _^_};
 ghost use Rattle.std.specs.Results.{Cases};
-ghost use Rattle.uart_rate.specs.Achieving.{Achieves, Runs, Too-fast};
-ghost use Rattle.uart_rate.specs.Clocks.{hertz-of};
+ghost use Rattle.uart_rate.specs.Achieving.{Gets, Runs, Too-fast};
 ghost use Rattle.std.specs.declared.result.Result.the-variants.{Ok};
-ghost use Rattle.uart_rate.specs.Judging.{Judged, Baud-in-range};
+ghost use Rattle.uart_rate.specs.Judging.{Judges, Baud-in-range};
 ghost use Rattle.uart_rate.specs.Rates.{Rate-law, Head-rate, Whole-part, sixteenths-of};
 ghost use Rattle.uart_rate.specs.declared.refusal.Refusal.the-variants.{BaudrateNotAchievable};
 use super::achieved::Achieved;
@@ -77,8 +76,8 @@ fn settle<G: BaudGenerator>(
     clocks: &Clocks,
     divider: Divider,
 ) -> Result<Achieved, Refusal>
-    requires { ⌜ Judged (G·BaudGenerator .limits) (G·BaudGenerator .has (now config .«clock_source»)) (hertz-of (now clocks) (now config .«clock_source»)) (now config .baudrate) (now config .«baudrate_tolerance») (Ok divider) ⌝ }
-    ensures { λ r. ⌜ Achieves (G·BaudGenerator .limits) (G·BaudGenerator .has (now (config .entry) .«clock_source»)) (hertz-of (now (clocks .entry)) (now (config .entry) .«clock_source»)) (now (config .entry) .baudrate) (now (config .entry) .«baudrate_tolerance») r ⌝ }
+    requires { ⌜ Judges (G·BaudGenerator .limits) (G·BaudGenerator .has) (now config) (now clocks) (Ok divider) ⌝ }
+    ensures { λ r. ⌜ Gets (G·BaudGenerator .limits) (G·BaudGenerator .has) (now (config .entry)) (now (clocks .entry)) r ⌝ }
 {
     let clk = clocks.hertz(config.clock_source);
     judge_tolerance(config.baudrate_tolerance, clk, config.baudrate, divider)?;
@@ -87,7 +86,7 @@ fn settle<G: BaudGenerator>(
 
 // Which rate the head gets from a configuration, or why it gets none.
 pub fn achieve<G: BaudGenerator>(config: &Config, clocks: &Clocks) -> Result<Achieved, Refusal>
-    ensures { λ r. ⌜ Achieves (G·BaudGenerator .limits) (G·BaudGenerator .has (now (config .entry) .«clock_source»)) (hertz-of (now (clocks .entry)) (now (config .entry) .«clock_source»)) (now (config .entry) .baudrate) (now (config .entry) .«baudrate_tolerance») r ⌝ }
+    ensures { λ r. ⌜ Gets (G·BaudGenerator .limits) (G·BaudGenerator .has) (now (config .entry)) (now (clocks .entry)) r ⌝ }
 {
     let divider = judge::<G>(config, clocks)?;
     settle::<G>(config, clocks, divider)

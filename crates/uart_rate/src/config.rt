@@ -100,7 +100,7 @@ pub struct Config {
 }
 
 impl Config {
-    // The settings that a caller who names none gets. Only the clock source differs by chip.
+    // The settings of a caller who names only the clock source.
     pub fn from_source(clock_source: ClockSource) -> Config
         ensures { λ r. ⌜ Default-config «clock_source» r ⌝ }
     {

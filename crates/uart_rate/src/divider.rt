@@ -1,7 +1,7 @@
 // The divider that a chip's rate fields hold.
 ghost use Prim.Native.Nat.{_+_, _*_, _<_, _≤_};
 
-// The clock is divided by `prescaler`, and then by `integer` and `fraction` sixteenths. Every value fits the fields of some chip, and none divides by 0.
+// The clock is divided by `prescaler`, and then by `integer` and `fraction` sixteenths. Every value lies within what a chip may state, and none divides by 0.
 #[derive(Clone, Copy, PartialEq, Eq, Debug)]
 pub struct Divider {
     pub prescaler: u16,

@@ -1,7 +1,6 @@
 // The ESP32: no prescaler, and a wide divider.
 ghost use mathlib.Core.Path.{_≡_};
-ghost use Rattle.uart_rate.specs.Generators.{esp32-limits, esp32-has};
-ghost use Rattle.uart_rate.specs.declared.config.ClockSource.the-variants.{Apb};
+ghost use Rattle.uart_rate.specs.Generators.{esp32-limits, esp32-has, esp32-source};
 use super::config::ClockSource;
 use super::generator::BaudGenerator;
 use super::limits::Limits;
@@ -19,7 +18,7 @@ pub impl BaudGenerator for Esp32 as Esp32Generator {
 
     ghost has = { esp32-has };
 
-    ghost preset = { Apb };
+    ghost default = { esp32-source };
 
     fn limits() -> Limits {
         Limits {

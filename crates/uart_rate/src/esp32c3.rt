@@ -1,11 +1,10 @@
 // The ESP32-C3: a prescaler before the divider.
 ghost use mathlib.Core.Path.{_≡_};
-ghost use Rattle.uart_rate.specs.Generators.{divided-limits, divided-has};
-ghost use Rattle.uart_rate.specs.declared.config.ClockSource.the-variants.{Apb};
+ghost use Rattle.uart_rate.specs.Generators.{prescaled-limits, prescaled-has, esp32c3-source};
 use super::config::ClockSource;
-use super::divided::has_divided_source;
 use super::generator::BaudGenerator;
 use super::limits::Limits;
+use super::prescaled::has_prescaled_source;
 
 pub struct Esp32c3;
 
@@ -16,11 +15,11 @@ pub impl BaudGenerator for Esp32c3 as Esp32c3Generator {
 
     const I: u32 = 4_095;
 
-    ghost limits = { divided-limits };
+    ghost limits = { prescaled-limits };
 
-    ghost has = { divided-has };
+    ghost has = { prescaled-has };
 
-    ghost preset = { Apb };
+    ghost default = { esp32c3-source };
 
     fn limits() -> Limits {
         Limits {
@@ -31,7 +30,7 @@ pub impl BaudGenerator for Esp32c3 as Esp32c3Generator {
     }
 
     fn has_source(source: ClockSource) -> bool {
-        has_divided_source(source)
+        has_prescaled_source(source)
     }
 
     fn default_source() -> ClockSource {

@@ -20,13 +20,13 @@ pub trait BaudGenerator {
     // which clock sources the chip has
     ghost has: { ClockSource → Bool };
 
-    // the source that is used where a caller names none
-    ghost preset: { ClockSource };
+    // the clock source where a caller names none
+    ghost default: { ClockSource };
 
     law ranges: { In-range limits };
 
     // the chip has its default source
-    law present: { has preset ≡ true };
+    law present: { has default ≡ true };
 
     fn limits() -> Limits
         ensures { λ r. ⌜ r ≡ limits ⌝ };
@@ -35,5 +35,5 @@ pub trait BaudGenerator {
         ensures { λ r. ⌜ r ≡ has source ⌝ };
 
     fn default_source() -> ClockSource
-        ensures { λ r. ⌜ r ≡ preset ⌝ };
+        ensures { λ r. ⌜ r ≡ default ⌝ };
 }

@@ -3,7 +3,7 @@ ghost use mathlib.Core.Bool.{true, false};
 ghost use mathlib.Core.Path.{_≡_};
 ghost use Rattle.std.specs.Results.{Cases};
 ghost use Rattle.uart_rate.specs.Clocks.{hertz-of};
-ghost use Rattle.uart_rate.specs.Judging.{Percent-in-range, Percent-out-of-range, Baud-in-range, Baud-out-of-range, Clock-usable, Clock-unusable, Divides, Out-of-bounds, Judged};
+ghost use Rattle.uart_rate.specs.Judging.{Percent-in-range, Percent-out-of-range, Baud-in-range, Baud-out-of-range, Clock-usable, Clock-unusable, Divides, Out-of-bounds, Judges};
 ghost use Rattle.uart_rate.specs.declared.refusal.Refusal.the-variants.{PercentOutOfRange, BaudrateNotSupported, ClockNotUsable, DividerOutOfRange};
 ghost use Prim.Native.Nat.{ℕ, _+_, _-_, _*_, _/_, _%_, _^_, _<_, _≤_};
 use super::clocks::Clocks;
@@ -83,14 +83,14 @@ fn divide<G: BaudGenerator>(config: &Config, clocks: &Clocks) -> Result<Divider,
     requires percent { ⌜ Percent-in-range (now config .«baudrate_tolerance») ⌝ }
     requires baud { ⌜ Baud-in-range (now config .baudrate) ⌝ }
     requires clock { ⌜ Clock-usable (G·BaudGenerator .has (now config .«clock_source»)) (hertz-of (now clocks) (now config .«clock_source»)) ⌝ }
-    ensures { λ r. ⌜ Judged (G·BaudGenerator .limits) (G·BaudGenerator .has (now (config .entry) .«clock_source»)) (hertz-of (now (clocks .entry)) (now (config .entry) .«clock_source»)) (now (config .entry) .baudrate) (now (config .entry) .«baudrate_tolerance») r ⌝ }
+    ensures { λ r. ⌜ Judges (G·BaudGenerator .limits) (G·BaudGenerator .has) (now (config .entry)) (now (clocks .entry)) r ⌝ }
 {
     divide_clock::<G>(clocks.hertz(config.clock_source), config.baudrate)
 }
 
 // The judgement on a configuration before anything is written: the first of the four tests that fails, or the divider.
 pub fn judge<G: BaudGenerator>(config: &Config, clocks: &Clocks) -> Result<Divider, Refusal>
-    ensures { λ r. ⌜ Judged (G·BaudGenerator .limits) (G·BaudGenerator .has (now (config .entry) .«clock_source»)) (hertz-of (now (clocks .entry)) (now (config .entry) .«clock_source»)) (now (config .entry) .baudrate) (now (config .entry) .«baudrate_tolerance») r ⌝ }
+    ensures { λ r. ⌜ Judges (G·BaudGenerator .limits) (G·BaudGenerator .has) (now (config .entry)) (now (clocks .entry)) r ⌝ }
 {
     judge_percent(config.baudrate_tolerance)?;
     judge_baud(config.baudrate)?;

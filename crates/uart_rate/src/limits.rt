@@ -3,7 +3,7 @@
 // The three numbers of the divider rule.
 #[derive(Clone, Copy)]
 pub struct Limits {
-    // Q: what one step of the prescaler is good for, in hertz for each baud
+    // Q: the largest clk / (p · baud); the prescaler p is raised until it holds
     pub q: u32,
     // P: the largest prescaler; 1 where the chip has none
     pub p: u32,

@@ -10,8 +10,7 @@ pub fn law_reckoned()
 // Under a prescaler of 2 or more the divider is a fine one.
 pub fn finely_divided()
     ensures { λ _. ⌜ Finely-divided ⌝ }
-{
-}
+{}
 
 // The rules on refusals, dividers and rates allow one answer to each configuration.
 pub fn answers_decided()

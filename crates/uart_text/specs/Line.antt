@@ -9,7 +9,7 @@ use Rattle.std.specs.shelf.Lists.{All}
 abbrev pub Ends-in : ℕ → List ℕ → Type 0
 Ends-in b s = (t : List ℕ) × (s ≡ t ++ (b ∷ []))
 
--- r is s without the byte b at its end, or s itself where it does not end in b
+-- r is s without the byte b at its end, or s itself where it does not end in b (only inner functions cite this)
 abbrev pub Stripped : ℕ → List ℕ → List ℕ → Type 0
 Stripped b s r = (s ≡ r ++ (b ∷ [])) ⊎ ((s ≡ r) × (Ends-in b r → ⊥))
 
