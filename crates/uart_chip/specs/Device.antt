@@ -48,10 +48,11 @@ with-rest r m = record { raw = m .raw; enabled = m .enabled; count = m .count; a
 -- chip with an update it then waits for one.
 abbrev pub written : Bool → Field → ℕ → Rest → Rest
 written updates f v r = record {
-    fields = put f v (r .fields);
-    waiting = cond (line f) (cond updates true (r .waiting)) (r .waiting);
-    standing = cond (line f) 0 (r .standing);
-    delays = r .delays }
+  fields = put f v (r .fields);
+  waiting = cond (line f) (cond updates true (r .waiting)) (r .waiting);
+  standing = cond (line f) 0 (r .standing);
+  delays = r .delays;
+}
 
 -- an update is requested: it takes the next delay, and replaces any that stands
 abbrev pub requested : Rest → Rest

@@ -33,8 +33,16 @@ holds s FiFoEmpty = s .«fifo_empty»
 -- the set of the events of which p is true
 abbrev pub those : (Event → Bool) → Events
 those p = record {
-    «fifo_full» = p FifoFull; «cmd_char_detected» = p CmdCharDetected; «fifo_ovf» = p FifoOvf; «fifo_tout» = p FifoTout;
-    «glitch_detected» = p GlitchDetected; «frame_error» = p FrameError; «parity_error» = p ParityError; done = p Done; «fifo_empty» = p FiFoEmpty }
+  «fifo_full» = p FifoFull;
+  «cmd_char_detected» = p CmdCharDetected;
+  «fifo_ovf» = p FifoOvf;
+  «fifo_tout» = p FifoTout;
+  «glitch_detected» = p GlitchDetected;
+  «frame_error» = p FrameError;
+  «parity_error» = p ParityError;
+  done = p Done;
+  «fifo_empty» = p FiFoEmpty;
+}
 
 -- no event, and all nine
 abbrev pub none : Events

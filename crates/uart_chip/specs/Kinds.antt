@@ -55,24 +55,54 @@ uart-has s uart.RxTimeout = s .«rx_timeout»
 -- the events of a set
 abbrev pub rx-members : RxEvents → Events
 rx-members s = record {
-    «fifo_full» = s .«fifo_full»; «cmd_char_detected» = s .«cmd_char_detected»; «fifo_ovf» = s .«fifo_ovf»; «fifo_tout» = s .«fifo_tout»;
-    «glitch_detected» = s .«glitch_detected»; «frame_error» = s .«frame_error»; «parity_error» = s .«parity_error»; done = false; «fifo_empty» = false }
+  «fifo_full» = s .«fifo_full»;
+  «cmd_char_detected» = s .«cmd_char_detected»;
+  «fifo_ovf» = s .«fifo_ovf»;
+  «fifo_tout» = s .«fifo_tout»;
+  «glitch_detected» = s .«glitch_detected»;
+  «frame_error» = s .«frame_error»;
+  «parity_error» = s .«parity_error»;
+  done = false;
+  «fifo_empty» = false;
+}
 
 abbrev pub tx-members : TxEvents → Events
 tx-members s = record {
-    «fifo_full» = false; «cmd_char_detected» = false; «fifo_ovf» = false; «fifo_tout» = false;
-    «glitch_detected» = false; «frame_error» = false; «parity_error» = false; done = s .done; «fifo_empty» = s .«fifo_empty» }
+  «fifo_full» = false;
+  «cmd_char_detected» = false;
+  «fifo_ovf» = false;
+  «fifo_tout» = false;
+  «glitch_detected» = false;
+  «frame_error» = false;
+  «parity_error» = false;
+  done = s .done;
+  «fifo_empty» = s .«fifo_empty»;
+}
 
 abbrev pub uart-members : UartInterrupts → Events
 uart-members s = record {
-    «fifo_full» = s .«rx_fifo_full»; «cmd_char_detected» = s .«at_cmd»; «fifo_ovf» = false; «fifo_tout» = s .«rx_timeout»;
-    «glitch_detected» = false; «frame_error» = false; «parity_error» = false; done = s .«tx_done»; «fifo_empty» = false }
+  «fifo_full» = s .«rx_fifo_full»;
+  «cmd_char_detected» = s .«at_cmd»;
+  «fifo_ovf» = false;
+  «fifo_tout» = s .«rx_timeout»;
+  «glitch_detected» = false;
+  «frame_error» = false;
+  «parity_error» = false;
+  done = s .«tx_done»;
+  «fifo_empty» = false;
+}
 
 -- the set of those events that are of the kind
 abbrev pub rx-part : Events → RxEvents
 rx-part s = record {
-    «fifo_full» = s .«fifo_full»; «cmd_char_detected» = s .«cmd_char_detected»; «fifo_ovf» = s .«fifo_ovf»; «fifo_tout» = s .«fifo_tout»;
-    «glitch_detected» = s .«glitch_detected»; «frame_error» = s .«frame_error»; «parity_error» = s .«parity_error» }
+  «fifo_full» = s .«fifo_full»;
+  «cmd_char_detected» = s .«cmd_char_detected»;
+  «fifo_ovf» = s .«fifo_ovf»;
+  «fifo_tout» = s .«fifo_tout»;
+  «glitch_detected» = s .«glitch_detected»;
+  «frame_error» = s .«frame_error»;
+  «parity_error» = s .«parity_error»;
+}
 
 abbrev pub tx-part : Events → TxEvents
 tx-part s = record { done = s .done; «fifo_empty» = s .«fifo_empty» }

@@ -1,3 +1,4 @@
+pub mod Chips
 pub mod Device
 pub mod Events
 pub mod Fields

@@ -82,12 +82,16 @@ stop-writes ExtraStop stop.«_1» = []
 stop-writes ExtraStop stop.«_1p5» = []
 stop-writes ExtraStop stop.«_2» = (field.Dl1En, 1) ∷ (field.StopBitNum, 1) ∷ []
 
--- The length of a symbol in bits, by the fields: a start bit, the data bits, a parity bit if there is one, and one
--- or two stop bits; the extra stop bit makes them two.
+-- how many parity bits and how many stop bits a symbol has, by the fields: the extra stop bit makes them two
+abbrev pub parity-length : (Field → ℕ) → ℕ
+parity-length fs = cond (eqb (fs field.ParityEn) 0) 0 1
+
+abbrev pub stop-length : (Field → ℕ) → ℕ
+stop-length fs = cond (eqb (fs field.Dl1En) 0) (cond (eqb (fs field.StopBitNum) 1) 1 2) 2
+
+-- the length of a symbol in bits: a start bit, the data bits, the parity bit and the stop bits
 abbrev pub symbol-length : (Field → ℕ) → ℕ
-symbol-length fs =
-    1 + (fs field.BitNum + 5) + cond (eqb (fs field.ParityEn) 0) 0 1 +
-    cond (eqb (fs field.Dl1En) 0) (cond (eqb (fs field.StopBitNum) 1) 1 2) 2
+symbol-length fs = 1 + (fs field.BitNum + 5) + parity-length fs + stop-length fs
 
 -- what is written for a timeout t: what 32 bits hold of it
 abbrev pub timeout-value : TimeoutRule → (Field → ℕ) → ℕ → ℕ

@@ -94,7 +94,17 @@ impl Field {
         ensures { λ r. ⌜ r ≡ line self ⌝ }
     {
         match self {
-            Field::SclkSel | Field::SclkDivNum | Field::SclkDivA | Field::SclkDivB | Field::SclkEn | Field::DigClk8mEn | Field::TickRefAlwaysOn | Field::RxfifoFullThrhd | Field::TxfifoEmptyThrhd | Field::TxIdleNum | Field::ErrWrMask => false,
+            Field::SclkSel
+            | Field::SclkDivNum
+            | Field::SclkDivA
+            | Field::SclkDivB
+            | Field::SclkEn
+            | Field::DigClk8mEn
+            | Field::TickRefAlwaysOn
+            | Field::RxfifoFullThrhd
+            | Field::TxfifoEmptyThrhd
+            | Field::TxIdleNum
+            | Field::ErrWrMask => false,
             _ => true,
         }
     }

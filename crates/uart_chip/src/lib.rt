@@ -3,6 +3,7 @@
 pub mod arrival;
 pub mod at_cmd;
 pub mod chip;
+pub mod chips;
 pub mod event;
 pub mod events;
 pub mod field;

@@ -64,7 +64,10 @@ pub impl EventSet for TxEvents as TxEventSet {
     }
 
     fn from_events(events: Events) -> TxEvents {
-        TxEvents { done: events.done, fifo_empty: events.fifo_empty }
+        TxEvents {
+            done: events.done,
+            fifo_empty: events.fifo_empty,
+        }
     }
 }
 

@@ -5,6 +5,7 @@ use super::config::ClockSource;
 use super::generator::BaudGenerator;
 use super::limits::Limits;
 
+#[derive(Clone, Copy)]
 pub struct Esp32;
 
 pub impl BaudGenerator for Esp32 as Esp32Generator {

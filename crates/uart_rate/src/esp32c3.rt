@@ -6,6 +6,7 @@ use super::generator::BaudGenerator;
 use super::limits::Limits;
 use super::prescaled::has_prescaled_source;
 
+#[derive(Clone, Copy)]
 pub struct Esp32c3;
 
 pub impl BaudGenerator for Esp32c3 as Esp32c3Generator {

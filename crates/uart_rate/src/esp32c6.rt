@@ -6,6 +6,7 @@ use super::generator::BaudGenerator;
 use super::limits::Limits;
 use super::prescaled::has_prescaled_source;
 
+#[derive(Clone, Copy)]
 pub struct Esp32c6;
 
 pub impl BaudGenerator for Esp32c6 as Esp32c6Generator {

@@ -1,0 +1,3 @@
+pub mod Cores
+pub mod Gates
+pub mod Wires
