@@ -1,3 +1,4 @@
 pub mod Cores
 pub mod Gates
+pub mod Made
 pub mod Wires

@@ -1,5 +1,7 @@
 // Two wires, and the register banks of three chips over any wire.
 
+pub mod bank;
+pub mod chip;
 pub mod core;
 pub mod device;
 pub mod esp32;
@@ -8,6 +10,7 @@ pub mod esp32c6;
 pub mod gate;
 pub mod gated;
 pub mod lists;
+pub mod made;
 pub mod scripted;
 mod selected;
 pub mod steady;
