@@ -51,10 +51,6 @@ none = those (λ _. false)
 abbrev pub every : Events
 every = those (λ _. true)
 
--- one event alone
-abbrev pub only : Event → Events
-only e = those (λ x. eqb (number-of x) (number-of e))
-
 -- the events of either set, of both, and of the first alone
 abbrev pub union : Events → Events → Events
 union a b = those (λ e. holds a e || holds b e)
@@ -69,5 +65,7 @@ without a b = those (λ e. holds a e && not (holds b e))
 abbrev pub numbered : ℕ → Events
 numbered n = those (λ e. eqb (n / 2 ^ number-of e % 2) 1)
 
-abbrev pub Numbered : ℕ → Events → Type 0
-Numbered n s = s ≡ numbered n
+-- whether a set has no event
+abbrev pub empty : Events → Bool
+empty s =
+    not (s .«fifo_full» || s .«cmd_char_detected» || s .«fifo_ovf» || s .«fifo_tout» || s .«glitch_detected» || s .«frame_error» || s .«parity_error» || s .done || s .«fifo_empty»)

@@ -3,7 +3,7 @@ ghost use mathlib.Core.Path.{_≡_};
 ghost use mathlib.Core.Bool.{Bool, true, false, _||_, _&&_, not};
 ghost use Prim.Native.Nat.{ℕ, _+_, _/_, _%_, _<_};
 ghost use lib.Dec.{eqb};
-ghost use Rattle.uart_chip.specs.Events.{number-of, none, every, only, holds, union, meet, without, Numbered};
+ghost use Rattle.uart_chip.specs.Events.{number-of, none, every, empty, holds, union, meet, without, numbered};
 use super::events::Events;
 
 #[derive(Clone, Copy, PartialEq, Eq, Debug)]
@@ -56,6 +56,23 @@ impl Events {
         }
     }
 
+    // All nine events.
+    pub fn all() -> Events
+        ensures { λ r. ⌜ r ≡ every ⌝ }
+    {
+        Events {
+            fifo_full: true,
+            cmd_char_detected: true,
+            fifo_ovf: true,
+            fifo_tout: true,
+            glitch_detected: true,
+            frame_error: true,
+            parity_error: true,
+            done: true,
+            fifo_empty: true,
+        }
+    }
+
     // Whether an event is in the set.
     pub fn contains(self, event: Event) -> bool
         ensures { λ r. ⌜ r ≡ holds self event ⌝ }
@@ -90,6 +107,38 @@ impl Events {
         }
     }
 
+    // The events of both sets.
+    pub fn intersection(self, other: Events) -> Events
+        ensures { λ r. ⌜ r ≡ meet self other ⌝ }
+    {
+        Events {
+            fifo_full: self.fifo_full & other.fifo_full,
+            cmd_char_detected: self.cmd_char_detected & other.cmd_char_detected,
+            fifo_ovf: self.fifo_ovf & other.fifo_ovf,
+            fifo_tout: self.fifo_tout & other.fifo_tout,
+            glitch_detected: self.glitch_detected & other.glitch_detected,
+            frame_error: self.frame_error & other.frame_error,
+            parity_error: self.parity_error & other.parity_error,
+            done: self.done & other.done,
+            fifo_empty: self.fifo_empty & other.fifo_empty,
+        }
+    }
+
+    // Whether the set has no event.
+    pub fn is_empty(self) -> bool
+        ensures { λ r. ⌜ r ≡ empty self ⌝ }
+    {
+        !(self.fifo_full
+            | self.cmd_char_detected
+            | self.fifo_ovf
+            | self.fifo_tout
+            | self.glitch_detected
+            | self.frame_error
+            | self.parity_error
+            | self.done
+            | self.fifo_empty)
+    }
+
     // The events of this set that are not in the other.
     pub fn without(self, other: Events) -> Events
         ensures { λ r. ⌜ r ≡ without self other ⌝ }
@@ -109,7 +158,7 @@ impl Events {
 
     // The set whose events have their bits set in a number; bits from 9 up say nothing.
     pub fn from_bits(bits: u32) -> Events
-        ensures { λ r. ⌜ Numbered bits r ⌝ }
+        ensures { λ r. ⌜ r ≡ numbered bits ⌝ }
     {
         Events {
             fifo_full: bits % 2 == 1,
@@ -122,5 +171,21 @@ impl Events {
             done: bits / 128 % 2 == 1,
             fifo_empty: bits / 256 % 2 == 1,
         }
+    }
+
+    // The number whose bits are the events of the set.
+    pub fn bits(self) -> u32
+        ensures same { λ r. ⌜ numbered r ≡ self ⌝ }
+        ensures range { λ r. ⌜ r < 512 ⌝ }
+    {
+        u32::from(self.fifo_full)
+            + 2 * u32::from(self.cmd_char_detected)
+            + 4 * u32::from(self.fifo_ovf)
+            + 8 * u32::from(self.fifo_tout)
+            + 16 * u32::from(self.glitch_detected)
+            + 32 * u32::from(self.frame_error)
+            + 64 * u32::from(self.parity_error)
+            + 128 * u32::from(self.done)
+            + 256 * u32::from(self.fifo_empty)
     }
 }

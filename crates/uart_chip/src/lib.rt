@@ -2,6 +2,7 @@
 
 pub mod arrival;
 pub mod at_cmd;
+pub mod bits;
 pub mod chip;
 pub mod chips;
 pub mod event;
@@ -14,5 +15,6 @@ pub mod properties;
 pub mod registers;
 pub mod set;
 pub mod sets;
+pub mod snapshot;
 pub mod source;
 pub mod wire;
