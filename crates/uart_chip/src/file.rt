@@ -14,11 +14,11 @@ impl Registers {
     pub fn read(&self, field: Field) -> u32
         ensures { λ r. ⌜ r ≡ value-of (now (self .entry)) field ⌝ }
     {
-        let index = field.index();
-        if index == GATE {
+        let place = field.index();
+        if place == GATE {
             self.sclk_en
         } else {
-            self.values[index]
+            self.values[place]
         }
     }
 
