@@ -10,7 +10,7 @@ use uart_banks::chip::BankEvents;
 use uart_banks::esp32::Esp32Steps;
 use uart_banks::esp32c3::Esp32c3Steps;
 use uart_banks::esp32c6::Esp32c6Steps;
-use uart_banks::lists::Scripted;
+use uart_banks::scripted::Scripted;
 use uart_banks::scripted::ScriptedWire;
 use uart_banks::steady::Steady;
 use uart_banks::steady::SteadyWire;

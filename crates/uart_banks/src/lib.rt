@@ -9,7 +9,6 @@ pub mod esp32c3;
 pub mod esp32c6;
 pub mod gate;
 pub mod gated;
-pub mod lists;
 pub mod made;
 pub mod scripted;
 mod selected;

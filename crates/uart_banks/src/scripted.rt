@@ -2,10 +2,18 @@
 ghost use mathlib.Core.Path.{_≡_};
 ghost use Prim.Native.Nat.{ℕ, _+_};
 ghost use Rattle.uart_banks.specs.Wires.{delay-at, arrival-at, last-count};
-use super::lists::Scripted;
 use uart_chip::arrival::Arrival;
 use uart_chip::events::Events;
 use uart_chip::wire::Wire;
+
+// What is left of the two lists.
+#[derive(Clone, Copy)]
+pub struct Scripted<'a> {
+    delays: &'a [u32],
+    arrivals: &'a [u32],
+    // the byte count of the last arrival of the whole list, which stays once the list is through
+    last: u32,
+}
 
 // The first number of a list, or 0, and what is left of the list.
 fn take_delay<'a>(list: &'a [u32]) -> (u32, &'a [u32])

@@ -93,7 +93,7 @@ stop-length fs = cond (eqb (fs field.Dl1En) 0) (cond (eqb (fs field.StopBitNum) 
 abbrev pub symbol-length : (Field → ℕ) → ℕ
 symbol-length fs = 1 + (fs field.BitNum + 5) + parity-length fs + stop-length fs
 
--- what is written for a timeout t: what 32 bits hold of it
+-- what is written for a timeout of t symbols: their number, or their bits as far as 32 bits hold them
 abbrev pub timeout-value : TimeoutRule → (Field → ℕ) → ℕ → ℕ
 timeout-value Symbols fs t = t
 timeout-value Bits fs t = t * symbol-length fs % 4294967296

@@ -1,4 +1,4 @@
-// The fields of the chips' UART registers, under the names that Espressif's manuals give them. docs/FIELDS.md tells what each is and which chip has it.
+// The fields of the UART registers, by Espressif's names for them. docs/FIELDS.md tells what each is and which chip has it.
 ghost use mathlib.Core.Path.{_≡_};
 ghost use Prim.Native.Nat.{_<_};
 ghost use Rattle.uart_chip.specs.Fields.{index-of, line};
