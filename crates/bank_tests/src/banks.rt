@@ -45,7 +45,7 @@ fn standing<C: Chip>(chip: &mut C) -> u32 {
     reads
 }
 
-// Updates with delays 0, 1 and 3, and one past the end; a line field's write cancels one. `marks`: the chip has an update.
+// Updates with delays 0, 1 and 3, and one past the end. `marks`: the chip has an update.
 fn updates<C: Chip>(chip: &mut C, marks: bool) -> Result<(), Fail> {
     check_eq(chip.is_waiting(), false)?;
     check_eq(chip.stands(), false).note("none stands")?;
@@ -193,5 +193,25 @@ fn the_others_in_theirs() -> Result<(), Fail> {
     chip.write_clock(ClockSource::RcFast, 1);
     check_eq(chip.read(Field::DigClk8mEn), 0)?;
     chip.write_stop(StopBits::_2);
-    check_eq(chip.read(Field::StopBitNum), 3)
+    check_eq(chip.read(Field::StopBitNum), 3)?;
+    chip.write(Field::ParityEn, 1);
+    chip.write_timeout(Some(2));
+    check_eq(chip.read(Field::RxToutThrhd), 18).note("5 data bits, parity, two stop bits: 9 bits")
+}
+
+#[test]
+fn the_made_up_chip_in_its() -> Result<(), Fail> {
+    let mut chip = Bank::fresh(Fourth, Steady { delay: 0 });
+    chip.write_clock(ClockSource::Xtal, 16);
+    check_eq(chip.read(Field::SclkSel), 3)?;
+    check_eq(chip.read(Field::SclkDivNum), 15)?;
+    check_eq(chip.is_waiting(), false)?;
+    chip.write_stop(StopBits::_2);
+    check_eq(chip.read(Field::Dl1En), 1)?;
+    check_eq(chip.is_waiting(), true)?;
+    chip.write_timeout(Some(200));
+    check_eq(chip.read(Field::RxToutThrhd), 200)?;
+    chip.write_at_cmd(command());
+    check_eq(chip.read(Field::AtCmdChar), 43)?;
+    check_eq(chip.read(Field::CharNum), 3)
 }

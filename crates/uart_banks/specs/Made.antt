@@ -9,7 +9,7 @@ use Rattle.uart_chip.specs.Registers.{value-of}
 use Rattle.uart_chip.specs.declared.field.Field.{Field}
 use Rattle.uart_chip.specs.declared.field.Field.the-variants.{SclkEn}
 
--- a core as it comes out of a reset, over a wire: the clock gate is open, all other fields are 0, no event is raw or
+-- a fresh core, over a wire: the clock gate is open, all other fields are 0, no event is raw or
 -- enabled, there are no bytes, nothing waits and no update stands
 pub record Fresh {W : Type 0} (wire : W) (c : Core W) : Type 0 where
   pub same-wire : c .wire ≡ wire

@@ -8,7 +8,7 @@ use uart_chip::events::Events;
 use uart_chip::registers::Registers;
 
 impl<K, W> Bank<K, W> {
-    // A bank as it comes out of a reset: the clock gate is open, and all else is 0.
+    // A fresh bank: the clock gate is open, and all else is 0.
     pub fn fresh(kind: K, wire: W) -> Bank<K, W>
         ensures { λ r. ⌜ Fresh wire (r .core) ⌝ }
     {

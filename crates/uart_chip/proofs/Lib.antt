@@ -1,3 +1,5 @@
 pub mod Files
 pub mod Flags
 pub mod Frames
+pub mod Places
+pub mod Updates

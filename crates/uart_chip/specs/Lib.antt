@@ -6,3 +6,4 @@ pub mod Kinds
 pub mod Meanings
 pub mod Registers
 pub mod Steps
+pub mod Theorems

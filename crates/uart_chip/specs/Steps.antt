@@ -37,7 +37,7 @@ abbrev pub given : Field → Option ℕ → Writes
 given f None = []
 given f (Some v) = (f, v) ∷ []
 
--- the code of a clock source where `sclk_sel` holds one; no chip has both that field and REF_TICK
+-- the code of a clock source where `sclk_sel` holds one; none of the three chips has both that field and REF_TICK
 abbrev pub source-code : ClockSource → ℕ
 source-code Apb = 1
 source-code RcFast = 2

@@ -17,4 +17,5 @@ pub mod set;
 pub mod sets;
 pub mod snapshot;
 pub mod source;
+pub mod theorems;
 pub mod wire;
