@@ -1,4 +1,4 @@
-// Tests of the rate rules and of the reading of queries, on values reckoned by hand.
+// Tests of the rate rules and of the reading of queries, on values reckoned from the rules, not by this code.
 
 #[cfg(test)]
 mod numbers;

@@ -1,4 +1,4 @@
-// The rate rules at their limits. Each row is reckoned by hand: clock, baud rate, and then prescaler, divider and rate, or the refusal.
+// The rate rules at their limits. Each row is reckoned from the rules, not by this code: clock, baud rate, and then prescaler, divider and rate, or the refusal.
 use std::test::*;
 use uart_rate::achieve::achieve;
 use uart_rate::clocks::Clocks;
