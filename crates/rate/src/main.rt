@@ -1,4 +1,6 @@
 // Tells which rate a head gets: `rate CHIP BAUD [CLK [TOLERANCE]]`, or one such query to a line from standard input.
+#![tactic(auto)]
+
 use anyhow::anyhow;
 use rate_answer::line::Line;
 use rate_query::ask::{Asked, ask, read_line};

@@ -1,4 +1,5 @@
 // Reads queries about rates.
+#![tactic(auto)]
 
 pub mod ask;
 pub mod chip;

@@ -1,4 +1,5 @@
 // Two wires, and the register banks of three chips over any wire.
+#![tactic(auto)]
 
 pub mod bank;
 pub mod chip;

@@ -1,4 +1,5 @@
 // The device by its meaning: events and sets of them, fields, and the interfaces of event sources, chips and wires.
+#![tactic(auto)]
 
 pub mod arrival;
 pub mod at_cmd;

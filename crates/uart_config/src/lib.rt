@@ -1,4 +1,5 @@
 // One chip with its budget: updates, the steps of a configuration, and what each refusal leaves behind.
+#![tactic(auto)]
 
 pub mod apply;
 pub mod baud;

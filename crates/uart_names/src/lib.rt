@@ -1,3 +1,4 @@
 // The names that the programs print.
+#![tactic(auto)]
 
 pub mod refusals;

@@ -1,4 +1,5 @@
 // The rate rules: settings and clocks in, a refusal or a divider and its rate out.
+#![tactic(auto)]
 
 pub mod achieve;
 pub mod achieved;
