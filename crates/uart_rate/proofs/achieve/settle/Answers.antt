@@ -12,4 +12,4 @@ run-requires g c =
     record { range = ok.0; law = simp (c.limits.ensures, c.hertz-clk.ensures) ok.1.law }
 
 pub returns : goal.returns
-returns g c = achieved c.args.divider c.requires (rw c.hertz-clk.ensures at c.in-ok-judge-tolerance.ensures) (rw c.hertz-clk.ensures at c.run.ensures)
+returns g c = achieved c.args.divider c.requires (rw c.hertz-clk.ensures at c.in_ok-judge_tolerance.ensures) (rw c.hertz-clk.ensures at c.run.ensures)

@@ -3,4 +3,4 @@ use Rattle.uart_rate.proofs.judge.divide.Goals as goal
 
 pub returns : goal.returns
 returns g c =
-    in_order g.G.BaudGenerator.limits _ _ _ _ c.divide-clock.result c.requires.percent c.requires.baud c.requires.clock (rw c.hertz.ensures at c.divide-clock.ensures)
+    in_order g.G.BaudGenerator.limits _ _ _ _ c.divide_clock.result c.requires.percent c.requires.baud c.requires.clock (rw c.hertz.ensures at c.divide_clock.ensures)

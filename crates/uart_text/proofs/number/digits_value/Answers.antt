@@ -2,7 +2,7 @@ use Rattle.std.proofs.Common.{◌+◌, ◌*◌, drop, sym, ap, ◌∙◌, arith}
 use Rattle.uart_text.specs.Number.{valueFrom}
 use Rattle.uart_text.proofs.Values.{value_digit, value_skip, value_above, value_all}
 use Rattle.uart_text.proofs.number.digits_value.Goals as goal
-use Rattle.uart_text.proofs.number.digits_value.Goals.{then-is-ascii-digit+in-ok-total, else-is-ascii-digit}
+use Rattle.uart_text.proofs.number.digits_value.Goals.{then-is_ascii_digit+in_ok-total, else-is_ascii_digit}
 
 pub returns-in-err-total : goal.returns-in-err-total
 returns-in-err-total c =
@@ -15,13 +15,13 @@ loop-byte-preserved c =
     let text = c.args.text.now in
     let i = c.loop-byte.byte-index in
     let total = c.loop-byte.total in
-    let tested = sym c.is-ascii-digit.ensures.value in
+    let tested = sym c.is_ascii_digit.ensures.value in
     elim c.if-is-ascii-digit.branch [
-      | then-is-ascii-digit+in-ok-total w ↦
+      | then-is_ascii_digit+in_ok-total w ↦
           ap (λ x. valueFrom x (drop (i + 1) text)) (w.total-is ∙ w.in-ok-total.ensures.1 ∙ ap (λ d. 10 * total + d) w.from.ensures)
           ∙ value_digit text i total c.loop-byte-test.true (tested ∙ w.if-is-ascii-digit.true)
           ∙ c.loop-byte.invariant
-      | else-is-ascii-digit w ↦
+      | else-is_ascii_digit w ↦
           ap (λ x. valueFrom x (drop (i + 1) text)) w.total-is
           ∙ value_skip text i total c.loop-byte-test.true (tested ∙ w.if-is-ascii-digit.false)
           ∙ c.loop-byte.invariant

@@ -8,7 +8,7 @@ use Rattle.uart_text.proofs.number.is_numeral.Goals as goal
 pub loop-byte-init : goal.loop-byte-init
 loop-byte-init c =
     back_none c.args.grouped c.args.text.now _
-    (ap (λ it. iter_rest (rev_source it)) c.into-iter-byte-iterator.ensures.into-iter-gives ∙ ap iter_rest c.rev-byte-items.ensures.source ∙ c.iter.ensures.rest)
+    (ap (λ it. iter_rest (rev_source it)) c.into_iter-byte-iterator.ensures.into_iter_gives ∙ ap iter_rest c.rev-byte-items.ensures.source ∙ c.iter.ensures.rest)
 
 pub step-state-requires : goal.step-state-requires
 step-state-requires c =

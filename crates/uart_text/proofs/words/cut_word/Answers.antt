@@ -9,13 +9,13 @@ returns-then-is-empty c =
 
 pub returns : goal.returns
 returns c =
-    let t = c.split-at.result.1.now in
-    let pos : 0 < length t = omega (arith, false-eqb (length t) 0 c.if-is-empty.ensures) in
+    let t = c.split_at.result.1.now in
+    let pos : 0 < length t = omega (arith, false-eqb (length t) 0 c.if-is_empty.ensures) in
     let blanks = c.leading.ensures in
     let word = c.leading-2.ensures in
     cut c.args.text.now t c.leading.result c.leading-2.result
     (record { bound = blanks.bound; alike = blanks.alike; change = blanks.change })
-    c.split-at.ensures.back pos
+    c.split_at.ensures.back pos
     (record { bound = word.bound; alike = word.alike; change = word.change })
-    c.split-at-2.result.0.now c.split-at-2.result.1.now
-    c.split-at-2.ensures.front c.split-at-2.ensures.back
+    c.split_at-2.result.0.now c.split_at-2.result.1.now
+    c.split_at-2.ensures.front c.split_at-2.ensures.back

@@ -8,5 +8,5 @@ pub loop-count-preserved : goal.loop-count-preserved
 loop-count-preserved c = (
   omega arith,
   All-more (λ b. blank b ≡ c.args.blanks) c.args.text.now c.loop-count.count 0 c.loop-count-test.true c.loop-count.invariant.1
-      (sym c.is-blank.ensures ∙ same_from_beq c.is-blank.result c.args.blanks c.if-is-blank-blanks.true),
+      (sym c.is_blank.ensures ∙ same_from_beq c.is_blank.result c.args.blanks c.if-is_blank-blanks.true),
 )

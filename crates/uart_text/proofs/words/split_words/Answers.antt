@@ -9,9 +9,9 @@ loop-word-smaller c = shorter _ _ _ c.in-Some.ensures
 
 pub loop-word-preserved : goal.loop-word-preserved
 loop-word-preserved c =
-    let pushed = ap texts c.in-ok-push.ensures.items ∙ map_push (λ w. w.now) (vec_items c.loop-word.all) c.in-Some.word in
-    subst (λ ws. SoFar c.args.line.now ws (left c.next-word.new.self)) (sym pushed)
+    let pushed = ap texts c.in_ok-push.ensures.items ∙ map_push (λ w. w.now) (vec_items c.loop-word.all) c.in-Some.word in
+    subst (λ ws. SoFar c.args.line.now ws (left c.next_word.new.self)) (sym pushed)
     (so_far_more c.args.line.now (texts (vec_items c.loop-word.all)) (left c.loop-word.words) _ _ c.loop-word.invariant c.in-Some.ensures)
 
 pub returns : goal.returns
-returns c = so_far_all c.args.line.now (texts (vec_items c.loop-word.all)) (left c.loop-word.words) c.loop-word.invariant c.in-default.ensures.0
+returns c = so_far_all c.args.line.now (texts (vec_items c.loop-word.all)) (left c.loop-word.words) c.loop-word.invariant c.in_default.ensures.0
