@@ -3,7 +3,7 @@ use Rattle.uart_rate.specs.Achieving.{refused}
 use Rattle.uart_rate.proofs.achieve.achieve.Goals as goal
 
 -- the refusal of the judgement is handed on
-pub returns-in-err-divider : goal.returns-in-err-divider
-returns-in-err-divider g c =
-    let p = err_from_is_err_and c.from-residual.result c.from-residual.ensures.1 in
-    rw (p.1, p.2) (refused c.in-err-divider.ensures)
+pub returns-in_err-divider : goal.returns-in_err-divider
+returns-in_err-divider g c =
+    let p = err_from_is_err_and c.from_residual.result c.from_residual.ensures.1 in
+    rw (p.1, p.2) (refused c.in_err-divider.ensures)

@@ -3,8 +3,8 @@ use Rattle.uart_rate.specs.Achieving.{not_achievable, achieved}
 use Rattle.uart_rate.proofs.Judgements.{accepted_so}
 use Rattle.uart_rate.proofs.achieve.settle.Goals as goal
 
-pub returns-in-err-judge-tolerance : goal.returns-in-err-judge-tolerance
-returns-in-err-judge-tolerance g c = not_achievable c.args.divider c.requires (rw c.hertz-clk.ensures at c.in-err-judge-tolerance.ensures.1) (search rules)
+pub returns-in_err-judge_tolerance : goal.returns-in_err-judge_tolerance
+returns-in_err-judge_tolerance g c = not_achievable c.args.divider c.requires (rw c.hertz-clk.ensures at c.in_err-judge_tolerance.ensures.1) (search rules)
 
 pub run-requires : goal.run-requires
 run-requires g c =

@@ -2,8 +2,8 @@ use Rattle.std.proofs.Common.{◌-◌, ◌*◌, div-le_self, arith, rules}
 use Rattle.uart_rate.proofs.Products.{positive, ceiling}
 use Rattle.uart_rate.proofs.rate.least_prescaler.Goals as goal
 
-pub nonzero-div-result : goal.nonzero-div-result
-nonzero-div-result c = positive c.from-2.result c.from-3.result (search rules) (search rules)
+pub nonzero_div-result : goal.nonzero_div-result
+nonzero_div-result c = positive c.from-2.result c.from-3.result (search rules) (search rules)
 
 pub returns : goal.returns
 returns c = record {

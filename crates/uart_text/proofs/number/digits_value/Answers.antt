@@ -4,11 +4,11 @@ use Rattle.uart_text.proofs.Values.{value_digit, value_skip, value_above, value_
 use Rattle.uart_text.proofs.number.digits_value.Goals as goal
 use Rattle.uart_text.proofs.number.digits_value.Goals.{then-is_ascii_digit+in_ok-total, else-is_ascii_digit}
 
-pub returns-in-err-total : goal.returns-in-err-total
-returns-in-err-total c =
+pub returns-in_err-total : goal.returns-in_err-total
+returns-in_err-total c =
     let digit = sym c.is-ascii-digit.ensures.value ∙ c.if-is-ascii-digit.true in
     let above = value_above c.args.text.now c.loop-byte.byte-index c.loop-byte.total c.loop-byte-test.true digit c.loop-byte.invariant in
-    rw c.from-residual.ensures (omega (arith, c.in-err-total.ensures))
+    rw c.from_residual.ensures (omega (arith, c.in_err-total.ensures))
 
 pub loop-byte-preserved : goal.loop-byte-preserved
 loop-byte-preserved c =
@@ -18,7 +18,7 @@ loop-byte-preserved c =
     let tested = sym c.is_ascii_digit.ensures.value in
     elim c.if-is-ascii-digit.branch [
       | then-is_ascii_digit+in_ok-total w ↦
-          ap (λ x. valueFrom x (drop (i + 1) text)) (w.total-is ∙ w.in-ok-total.ensures.1 ∙ ap (λ d. 10 * total + d) w.from.ensures)
+          ap (λ x. valueFrom x (drop (i + 1) text)) (w.total-is ∙ w.in_ok-total.ensures.1 ∙ ap (λ d. 10 * total + d) w.from.ensures)
           ∙ value_digit text i total c.loop-byte-test.true (tested ∙ w.if-is-ascii-digit.true)
           ∙ c.loop-byte.invariant
       | else-is_ascii_digit w ↦

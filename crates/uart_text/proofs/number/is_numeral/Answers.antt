@@ -23,7 +23,7 @@ returns-in-Digits c =
     let all = back_all c.args.grouped c.args.text.now _ _ c.loop-byte.invariant c.in-None.ensures.steps.0 in
     (λ _. (c.in-Digits.field-0, accepted c.args.grouped c.args.text.now c.in-Digits.field-0 (sym c.in-Digits.is ∙ all)), λ _. refl)
 
-pub returns-in-default : goal.returns-in-default
-returns-in-default c =
+pub returns-in_default : goal.returns-in_default
+returns-in_default c =
     let all = back_all c.args.grouped c.args.text.now _ _ c.loop-byte.invariant c.in-None.ensures.steps.0 in
-    (λ e. absurd (false≢true e), λ m. absurd (no_other c.args.grouped c.args.text.now c.loop-byte.state all c.in-default.not-Digits m.0 m.1))
+    (λ e. absurd (false≢true e), λ m. absurd (no_other c.args.grouped c.args.text.now c.loop-byte.state all c.in_default.not-Digits m.0 m.1))

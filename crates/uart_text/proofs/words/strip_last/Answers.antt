@@ -6,5 +6,5 @@ pub returns-else-byte-last : goal.returns-else-byte-last
 returns-else-byte-last c =
     inr (refl, ends_in_last c.args.last c.in-Some.byte.now c.args.text.now c.in-Some.rest.now c.in-Some.ensures.cases.0 c.if-byte-last.false)
 
-pub returns-in-default : goal.returns-in-default
-returns-in-default c = inr (refl, empty_ends_in_none c.args.last c.args.text.now c.in-default.ensures.cases)
+pub returns-in_default : goal.returns-in_default
+returns-in_default c = inr (refl, empty_ends_in_none c.args.last c.args.text.now c.in_default.ensures.cases)

@@ -3,8 +3,8 @@ use Rattle.std.proofs.lemmas.Nat.{mul-le}
 use Rattle.uart_rate.proofs.Products.{positive}
 use Rattle.uart_rate.proofs.divider.Divider.division.Goals as goal
 
-pub overflow-mul-result : goal.overflow-mul-result
-overflow-mul-result c =
+pub overflow_mul-result : goal.overflow_mul-result
+overflow_mul-result c =
     let most : c.from.result * c.sixteenths.result ≤ 256 * 4294967311 = mul-le c.from.result c.sixteenths.result 256 4294967311 (search rules) (search rules) in
     search rules
 

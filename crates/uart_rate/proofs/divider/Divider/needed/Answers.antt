@@ -4,8 +4,8 @@ use Rattle.uart_rate.proofs.Products.{positive}
 use Rattle.uart_rate.specs.Rates.{sixteenths_of}
 use Rattle.uart_rate.proofs.divider.Divider.needed.Goals as goal
 
-pub overflow-mul-result : goal.overflow-mul-result
-overflow-mul-result c =
+pub overflow_mul-result : goal.overflow_mul-result
+overflow_mul-result c =
     let most : c.from.result * c.from-2.result ≤ 4294967295 * 281474976710655 = mul-le c.from.result c.from-2.result 4294967295 281474976710655 (search rules) (search rules) in
     search rules
 
