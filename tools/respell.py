@@ -26,6 +26,7 @@ CHOSEN = {
     "finely-divided": "finely_divided_lem",
     "worked-examples": "worked_examples_lem",
     "refusal-name": "name_of_refusal",
+    "valueFrom": "value_from",
 }
 # names that the kit's own port.py has turned in specs/ and proofs/, for the pages and the edits
 TURNED = """all-alike apart-by as-many at-most back-fits back-more back-none below-one both-run digits-step field-at first-word
@@ -80,7 +81,7 @@ def main():
     names = {}
     for path in antt:
         for name in own_names(path, path.read_text().splitlines()):
-            if "-" in name and new_name(name) != name:
+            if ("-" in name or name in CHOSEN) and new_name(name) != name:
                 names[name] = new_name(name)
     seen = {w for p in antt for w in WORD.findall(p.read_text())}
     clash = sorted((o, n) for o, n in names.items() if n in seen and n not in SHARED)

@@ -21,13 +21,13 @@ abbrev pub Form : List ℕ → Type 0
 Form s = (g : Bool) × (n : ℕ) × Numeral g s n
 
 -- the value of the digits of s behind digits whose value is a: each digit adds itself to ten times what is before it
-abbrev pub valueFrom : ℕ → List ℕ → ℕ
-valueFrom a [] = a
-valueFrom a (b ∷ s) = valueFrom (cond (is_ascii_digit b) (10 * a + (b - 48)) a) s
+abbrev pub value_from : ℕ → List ℕ → ℕ
+value_from a [] = a
+value_from a (b ∷ s) = value_from (cond (is_ascii_digit b) (10 * a + (b - 48)) a) s
 
 -- the value of the digits of s
 abbrev pub value : List ℕ → ℕ
-value s = valueFrom 0 s
+value s = value_from 0 s
 
 -- s is a numeral whose value is v
 abbrev pub Number : List ℕ → ℕ → Type 0

@@ -2,10 +2,10 @@ use Rattle.std.proofs.Common.{◌<◌, length, sym, ap, ◌∙◌, arith, true-e
 use Rattle.uart_text.proofs.Cuts.{all_blank, cut}
 use Rattle.uart_text.proofs.words.cut_word.Goals as goal
 
-pub returns-then-is-empty : goal.returns-then-is-empty
-returns-then-is-empty c =
+pub returns-then-is_empty : goal.returns-then-is_empty
+returns-then-is_empty c =
     all_blank c.args.text.now c.leading.result c.leading.ensures.alike
-    (ap length (sym c.split-at.ensures.back) ∙ true-eqb _ 0 c.if-is-empty.ensures)
+    (ap length (sym c.split_at.ensures.back) ∙ true-eqb _ 0 c.if-is_empty.ensures)
 
 pub returns : goal.returns
 returns c =
