@@ -2,6 +2,7 @@
 ghost use Rattle.uart_chip.specs.Kinds.{rx_event, rx_has, rx_members, rx_part, tx_event, tx_has, tx_members, tx_part, uart_event, uart_has, uart_members, uart_part};
 ghost use Rattle.uart_chip.specs.declared.kinds.RxEvent.TheVariants as rx;
 ghost use Rattle.std.proofs.Common.{rules};
+ghost use Rattle.uart_chip.specs.Ranges.{rx_range, tx_range, uart_range};
 ghost use Rattle.uart_chip.specs.declared.kinds.TxEvent.TheVariants as tx;
 ghost use Rattle.uart_chip.specs.declared.kinds.UartInterrupt.TheVariants as uart;
 
@@ -25,6 +26,8 @@ impl EventSet for RxEvents {
     ghost known = { λ s t same i. record { fifo_full = same rx.FifoFull i; cmd_char_detected = same rx.CmdCharDetected i; fifo_ovf = same rx.FifoOvf i; fifo_tout = same rx.FifoTout i; glitch_detected = same rx.GlitchDetected i; frame_error = same rx.FrameError i; parity_error = same rx.ParityError i } };
 
     ghost cases = { Prim.search rules };
+
+    ghost range = { rx_range };
 
     ghost parts = { Prim.search rules };
 
@@ -70,6 +73,8 @@ impl EventSet for TxEvents {
 
     ghost cases = { Prim.search rules };
 
+    ghost range = { tx_range };
+
     ghost parts = { Prim.search rules };
 
     fn events(self) -> Events {
@@ -103,6 +108,8 @@ impl EventSet for UartInterrupts {
     ghost known = { λ s t same i. record { at_cmd = same uart.AtCmd i; tx_done = same uart.TxDone i; rx_fifo_full = same uart.RxFifoFull i; rx_timeout = same uart.RxTimeout i } };
 
     ghost cases = { Prim.search rules };
+
+    ghost range = { uart_range };
 
     ghost parts = { Prim.search rules };
 
