@@ -4,4 +4,4 @@ use Rattle.rate_query.proofs.read.before_percent.Goals as goal
 use Rattle.std.proofs.lemmas.Bool.Decides.{Decides-eqb}
 
 pub returns : goal.returns
-returns c = strip_suffix_is Decides-eqb c.args.word.now (codes "%") c.strip-suffix.result c.strip-suffix.ensures.cases
+returns c = strip_suffix_is Decides-eqb c.args.word.now (codes "%") c.strip_suffix.result c.strip_suffix.ensures.cases

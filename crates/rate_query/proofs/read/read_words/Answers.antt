@@ -10,4 +10,4 @@ bounds-words-1 c = omega (arith, as_many c.args.words.now)
 
 pub returns : goal.returns
 returns c =
-    rw (text_at c.args.words.now 0, text_at c.args.words.now 1, ← c.nth-word.ensures, ← c.nth-word-2.ensures) c.read-parts.ensures
+    rw (text_at c.args.words.now 0, text_at c.args.words.now 1, ← c.nth_word.ensures, ← c.nth_word-2.ensures) c.read_parts.ensures

@@ -10,5 +10,5 @@ pub returns : goal.returns
 returns g c =
     then_rest (written true DigClk8mEn 1)
     (written_all true ((SclkSel, 2) ∷ (SclkDivNum, c.args.prescaler - 1) ∷ (SclkDivA, 0) ∷ (SclkDivB, 0) ∷ []))
-    (core_meaning g.W.Wire c.args.core.now) (core_meaning g.W.Wire c.write.new.self) (core_meaning g.W.Wire c.write-selected-clock.new.core)
-    c.write.ensures c.write-selected-clock.ensures
+    (core_meaning g.W.Wire c.args.core.now) (core_meaning g.W.Wire c.write.new.self) (core_meaning g.W.Wire c.write_selected_clock.new.core)
+    c.write.ensures c.write_selected_clock.ensures

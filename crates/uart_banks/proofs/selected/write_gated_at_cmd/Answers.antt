@@ -21,12 +21,12 @@ returns g c =
     let before = core_meaning g.W.Wire c.args.core.now in
     let gate : ℕ = c.args.core.now.registers.sclk_en in
     let vs : List ℕ = c.args.core.now.registers.values in
-    let us : List ℕ = c.write-at-cmd.new.values in
+    let us : List ℕ = c.write_at_cmd.new.values in
     let fs : Field → ℕ = put AtCmdChar c.args.config.cmd_char (put SclkEn 0 (value_of (record { sclk_en = gate; values = vs }))) in
     let order : (pre ++ (post ++ gap)) ++ open_up ≡ pre ++ (post ++ (gap ++ open_up)) =
     append_assoc pre (post ++ gap) open_up ∙ ap (λ (z : Writes). pre ++ z) (append_assoc post gap open_up) in
     let opened : value_of (record { sclk_en = c.drop-guard.new.self.0; values = us }) ≡ put_all (n ∷ (pre ++ (post ++ (gap ++ open_up)))) fs =
     ap (λ (x : ℕ). value_of (record { sclk_en = x; values = us })) c.drop-guard.ensures ∙
-    (gated gate (made ∷ n ∷ (pre ++ (post ++ gap))) vs us c.write-at-cmd.ensures ∙ ap (λ (z : Writes). put_all (n ∷ z) fs) order) in
+    (gated gate (made ∷ n ∷ (pre ++ (post ++ gap))) vs us c.write_at_cmd.ensures ∙ ap (λ (z : Writes). put_all (n ∷ z) fs) order) in
     ap (λ (f : Field → ℕ). with_rest (record { fields = f; waiting = true; standing = 0; delays = before.rest.delays }) before) opened ∙
     sym (ap (λ (r : Rest). with_rest r before) (settled (n ∷ (pre ++ (post ++ (gap ++ open_up)))) fs before.rest.delays))

@@ -10,5 +10,5 @@ pub returns : goal.returns
 returns g c =
     then_rest (written true SclkSel (source_code c.args.source))
     (written_all true ((SclkDivNum, c.args.prescaler - 1) ∷ (SclkDivA, 0) ∷ (SclkDivB, 0) ∷ []))
-    (core_meaning g.W.Wire c.args.core.now) (core_meaning g.W.Wire c.write.new.self) (core_meaning g.W.Wire c.write-prescaler.new.core)
-    (rw c.source_code.ensures at c.write.ensures) c.write-prescaler.ensures
+    (core_meaning g.W.Wire c.args.core.now) (core_meaning g.W.Wire c.write.new.self) (core_meaning g.W.Wire c.write_prescaler.new.core)
+    (rw c.source_code.ensures at c.write.ensures) c.write_prescaler.ensures

@@ -10,10 +10,10 @@ pub returns : goal.returns
 returns g c =
     then_rest (written true SclkSel (source_code c.args.source)) (λ (r : Rest). written true SclkDivB 0 (written true SclkDivA 0 (written true SclkDivNum (c.args.prescaler - 1) r)))
     (core_meaning g.W.Wire c.args.core.now) (core_meaning g.W.Wire c.write.new.self) (core_meaning g.W.Wire c.write-4.new.self)
-    (rw c.code-of.ensures at c.write.ensures)
+    (rw c.code_of.ensures at c.write.ensures)
     (then_rest (written true SclkDivNum (c.args.prescaler - 1)) (λ (r : Rest). written true SclkDivB 0 (written true SclkDivA 0 r))
     (core_meaning g.W.Wire c.write.new.self) (core_meaning g.W.Wire c.write-2.new.self) (core_meaning g.W.Wire c.write-4.new.self)
-    (rw (c.saturating-sub.ensures, c.from.ensures) at c.write-2.ensures)
+    (rw (c.saturating_sub.ensures, c.from.ensures) at c.write-2.ensures)
     (then_rest (written true SclkDivA 0) (written true SclkDivB 0)
     (core_meaning g.W.Wire c.write-2.new.self) (core_meaning g.W.Wire c.write-3.new.self) (core_meaning g.W.Wire c.write-4.new.self)
     c.write-3.ensures c.write-4.ensures))

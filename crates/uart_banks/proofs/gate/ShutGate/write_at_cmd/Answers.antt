@@ -10,8 +10,8 @@ returns c =
     let post : Writes = given PostIdleNum c.args.config.post_idle_count in
     let gap : Writes = given RxGapTout c.args.config.gap_timeout in
     then ((AtCmdChar, c.args.config.cmd_char) ∷ []) ((CharNum, c.args.config.char_num) ∷ (pre ++ (post ++ gap)))
-    c.args.values.now c.write.new.values c.write-given-3.new.values (rw c.from.ensures at c.write.ensures)
+    c.args.values.now c.write.new.values c.write_given-3.new.values (rw c.from.ensures at c.write.ensures)
     (then ((CharNum, c.args.config.char_num) ∷ []) (pre ++ (post ++ gap))
-    c.write.new.values c.write-2.new.values c.write-given-3.new.values (rw c.from-2.ensures at c.write-2.ensures)
-    (then pre (post ++ gap) c.write-2.new.values c.write-given.new.values c.write-given-3.new.values c.write-given.ensures
-    (then post gap c.write-given.new.values c.write-given-2.new.values c.write-given-3.new.values c.write-given-2.ensures c.write-given-3.ensures)))
+    c.write.new.values c.write-2.new.values c.write_given-3.new.values (rw c.from-2.ensures at c.write-2.ensures)
+    (then pre (post ++ gap) c.write-2.new.values c.write_given.new.values c.write_given-3.new.values c.write_given.ensures
+    (then post gap c.write_given.new.values c.write_given-2.new.values c.write_given-3.new.values c.write_given-2.ensures c.write_given-3.ensures)))

@@ -12,7 +12,7 @@ returns g c =
     let b = c.args.self.now.budget in
     let s = rest_of g.C.EventSource c.args.self.now in
     record {
-      carried = carried_by has b (at_cmd_rows g.Kind.ChipKind.properties c.args.config) 0 (run has b (at_cmd_rows g.Kind.ChipKind.properties c.args.config) 0 s) c.change-at-cmd.result s (rest_of g.C.EventSource c.change-at-cmd.new.self)
-          (run_carried has b (at_cmd_rows g.Kind.ChipKind.properties c.args.config) 0 s) c.change-at-cmd.ensures.ran;
-      kept = c.change-at-cmd.ensures.kept;
+      carried = carried_by has b (at_cmd_rows g.Kind.ChipKind.properties c.args.config) 0 (run has b (at_cmd_rows g.Kind.ChipKind.properties c.args.config) 0 s) c.change_at_cmd.result s (rest_of g.C.EventSource c.change_at_cmd.new.self)
+          (run_carried has b (at_cmd_rows g.Kind.ChipKind.properties c.args.config) 0 s) c.change_at_cmd.ensures.ran;
+      kept = c.change_at_cmd.ensures.kept;
     }

@@ -3,4 +3,4 @@ use Rattle.uart_config.proofs.uart.Uart.divide.Goals as goal
 
 pub returns : goal.returns
 unfolding stepped
-returns g c = c.change-baud.ensures
+returns g c = c.change_baud.ensures

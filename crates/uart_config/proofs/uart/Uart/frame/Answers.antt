@@ -3,4 +3,4 @@ use Rattle.uart_config.proofs.uart.Uart.frame.Goals as goal
 
 pub returns : goal.returns
 unfolding stepped
-returns g c = c.change-framing.ensures
+returns g c = c.change_framing.ensures

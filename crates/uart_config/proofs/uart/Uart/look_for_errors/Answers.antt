@@ -11,10 +11,10 @@ returns-in-Err g c =
     let before : Meaning = meaning g.C.EventSource c.args.self.now.chip in
     let after : Meaning = meaning g.C.EventSource c.look-look.new.self in
     let seen : after ≡ looked before = c.look-look.ensures.after in
-    let done = c.clear-and-recover.ensures in
+    let done = c.clear_and_recover.ensures in
     let e = c.in-Err.error in
-    let f = c.clear-and-recover.result in
-    let t : Rest = rest_of g.C.EventSource c.clear-and-recover.new.self in
+    let f = c.clear_and_recover.result in
+    let t : Rest = rest_of g.C.EventSource c.clear_and_recover.new.self in
     record {
       checks = error e f
           (subst (λ (es : Events). FirstError es (Err e)) (c.look-look.ensures.raw ∙ ap (λ (m : Meaning). m.raw) seen) c.in-Err.ensures) refl

@@ -14,8 +14,8 @@ returns-in_err-divider g c =
     let p = err_from_is_err_and c.from_residual.result c.from_residual.ensures.1 in
     let j = c.in_err-divider.ensures in
     record {
-      inits = unfit c.in_err-divider.field-0.0.refusal j.1 (p.1 ∙ ap (λ (f : Fault). Err f) (p.2 ∙ j.0)) c.disable-interrupts.ensures.events;
-      budget = c.disable-interrupts.ensures.budget;
+      inits = unfit c.in_err-divider.field-0.0.refusal j.1 (p.1 ∙ ap (λ (f : Fault). Err f) (p.2 ∙ j.0)) c.disable_interrupts.ensures.events;
+      budget = c.disable_interrupts.ensures.budget;
     }
 
 pub returns-in_err-reads : goal.returns-in_err-reads
@@ -26,9 +26,9 @@ returns-in_err-reads g c =
     let f = c.in_err-reads.field-0.0 in
     record {
       inits = stopped c.in_ok-divider.divider f c.in_ok-divider.ensures (p.1 ∙ ap (λ (z : Fault). Err z) p.2)
-          (starts g.Kind.ChipKind.properties g.Kind.BaudGenerator.limits.p c.disable-interrupts.new.self.budget c.args.self.now.budget c.args.config.now c.hertz.result
-          (hertz_of c.args.clocks.now c.args.config.now.clock_source) c.in_ok-divider.divider (rest_of g.C.EventSource c.disable-interrupts.new.self) m.rest (Err f) t t
-          c.in_err-reads.ensures.ran c.disable-interrupts.ensures.budget c.hertz.ensures (ap (λ (z : Meaning). z.rest) c.disable-interrupts.ensures.events) refl)
+          (starts g.Kind.ChipKind.properties g.Kind.BaudGenerator.limits.p c.disable_interrupts.new.self.budget c.args.self.now.budget c.args.config.now c.hertz.result
+          (hertz_of c.args.clocks.now c.args.config.now.clock_source) c.in_ok-divider.divider (rest_of g.C.EventSource c.disable_interrupts.new.self) m.rest (Err f) t t
+          c.in_err-reads.ensures.ran c.disable_interrupts.ensures.budget c.hertz.ensures (ap (λ (z : Meaning). z.rest) c.disable_interrupts.ensures.events) refl)
           (search rules);
       budget = search rules;
     }
@@ -40,9 +40,9 @@ returns g c =
     let k = c.in_ok-reads.reads in
     record {
       inits = accepted c.in_ok-divider.divider k c.in_ok-divider.ensures refl
-          (starts g.Kind.ChipKind.properties g.Kind.BaudGenerator.limits.p c.disable-interrupts.new.self.budget c.args.self.now.budget c.args.config.now c.hertz.result
-          (hertz_of c.args.clocks.now c.args.config.now.clock_source) c.in_ok-divider.divider (rest_of g.C.EventSource c.disable-interrupts.new.self) m.rest (Ok k) t (g.C.EventSource.rest c.clear.new.self)
-          c.in_ok-reads.ensures.ran c.disable-interrupts.ensures.budget c.hertz.ensures (ap (λ (z : Meaning). z.rest) c.disable-interrupts.ensures.events)
+          (starts g.Kind.ChipKind.properties g.Kind.BaudGenerator.limits.p c.disable_interrupts.new.self.budget c.args.self.now.budget c.args.config.now c.hertz.result
+          (hertz_of c.args.clocks.now c.args.config.now.clock_source) c.in_ok-divider.divider (rest_of g.C.EventSource c.disable_interrupts.new.self) m.rest (Ok k) t (g.C.EventSource.rest c.clear.new.self)
+          c.in_ok-reads.ensures.ran c.disable_interrupts.ensures.budget c.hertz.ensures (ap (λ (z : Meaning). z.rest) c.disable_interrupts.ensures.events)
           (sym (ap (λ (z : Meaning). z.rest) c.clear.ensures)))
           (search rules);
       budget = search rules;

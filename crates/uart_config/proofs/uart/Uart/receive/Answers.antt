@@ -3,4 +3,4 @@ use Rattle.uart_config.proofs.uart.Uart.receive.Goals as goal
 
 pub returns : goal.returns
 unfolding stepped
-returns g c = c.configure-rx.ensures
+returns g c = c.configure_rx.ensures

@@ -12,7 +12,7 @@ returns g c =
     let b = c.args.self.now.budget in
     let s = rest_of g.C.EventSource c.args.self.now in
     record {
-      carried = carried_by has b (threshold_row c.args.threshold ∷ []) 0 (run has b (threshold_row c.args.threshold ∷ []) 0 s) c.change-rx-threshold.result s (rest_of g.C.EventSource c.change-rx-threshold.new.self)
-          (run_carried has b (threshold_row c.args.threshold ∷ []) 0 s) c.change-rx-threshold.ensures.ran;
-      kept = c.change-rx-threshold.ensures.kept;
+      carried = carried_by has b (threshold_row c.args.threshold ∷ []) 0 (run has b (threshold_row c.args.threshold ∷ []) 0 s) c.change_rx_threshold.result s (rest_of g.C.EventSource c.change_rx_threshold.new.self)
+          (run_carried has b (threshold_row c.args.threshold ∷ []) 0 s) c.change_rx_threshold.ensures.ran;
+      kept = c.change_rx_threshold.ensures.kept;
     }

@@ -12,7 +12,7 @@ returns g c =
     let b = c.args.self.now.budget in
     let s = rest_of g.C.EventSource c.args.self.now in
     record {
-      carried = carried_by has b (timeout_row g.Kind.ChipKind.properties (rest_of g.C.EventSource c.args.self.now).fields c.args.timeout ∷ []) 0 (run has b (timeout_row g.Kind.ChipKind.properties (rest_of g.C.EventSource c.args.self.now).fields c.args.timeout ∷ []) 0 s) c.change-rx-timeout.result s (rest_of g.C.EventSource c.change-rx-timeout.new.self)
-          (run_carried has b (timeout_row g.Kind.ChipKind.properties (rest_of g.C.EventSource c.args.self.now).fields c.args.timeout ∷ []) 0 s) c.change-rx-timeout.ensures.ran;
-      kept = c.change-rx-timeout.ensures.kept;
+      carried = carried_by has b (timeout_row g.Kind.ChipKind.properties (rest_of g.C.EventSource c.args.self.now).fields c.args.timeout ∷ []) 0 (run has b (timeout_row g.Kind.ChipKind.properties (rest_of g.C.EventSource c.args.self.now).fields c.args.timeout ∷ []) 0 s) c.change_rx_timeout.result s (rest_of g.C.EventSource c.change_rx_timeout.new.self)
+          (run_carried has b (timeout_row g.Kind.ChipKind.properties (rest_of g.C.EventSource c.args.self.now).fields c.args.timeout ∷ []) 0 s) c.change_rx_timeout.ensures.ran;
+      kept = c.change_rx_timeout.ensures.kept;
     }

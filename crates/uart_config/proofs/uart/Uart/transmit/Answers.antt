@@ -3,4 +3,4 @@ use Rattle.uart_config.proofs.uart.Uart.transmit.Goals as goal
 
 pub returns : goal.returns
 unfolding stepped
-returns g c = c.configure-tx.ensures
+returns g c = c.configure_tx.ensures

@@ -17,18 +17,18 @@ returns g c =
     let cts : Writes = cts_writes config.hw_flow_ctrl.cts in
     let rts : Writes = rts_writes config.hw_flow_ctrl.rts in
     let r0 : Rest = rest_of g.C.EventSource c.args.self.now in
-    let r1 : Rest = rest_of g.C.EventSource c.change-data-bits.new.self in
-    let r2 : Rest = rest_of g.C.EventSource c.change-parity.new.self in
-    let r3 : Rest = rest_of g.C.EventSource c.write-stop-bits.new.self in
-    let r4 : Rest = rest_of g.C.EventSource c.change-sw-flow-control.new.self in
-    let r5 : Rest = rest_of g.C.EventSource c.change-cts.new.self in
-    let r6 : Rest = rest_of g.C.EventSource c.change-rts.new.self in
+    let r1 : Rest = rest_of g.C.EventSource c.change_data_bits.new.self in
+    let r2 : Rest = rest_of g.C.EventSource c.change_parity.new.self in
+    let r3 : Rest = rest_of g.C.EventSource c.write_stop_bits.new.self in
+    let r4 : Rest = rest_of g.C.EventSource c.change_sw_flow_control.new.self in
+    let r5 : Rest = rest_of g.C.EventSource c.change_cts.new.self in
+    let r6 : Rest = rest_of g.C.EventSource c.change_rts.new.self in
     record {
       wrote =
-          wrote_then has bits (par ++ (stop ++ (sw ++ (cts ++ rts)))) r0 r1 r6 c.change-data-bits.ensures.wrote
-          (wrote_then has par (stop ++ (sw ++ (cts ++ rts))) r1 r2 r6 c.change-parity.ensures.wrote
-          (wrote_then has stop (sw ++ (cts ++ rts)) r2 r3 r6 c.write-stop-bits.ensures.wrote
-          (wrote_then has sw (cts ++ rts) r3 r4 r6 c.change-sw-flow-control.ensures.wrote
-          (wrote_then has cts rts r4 r5 r6 c.change-cts.ensures.wrote c.change-rts.ensures.wrote))));
+          wrote_then has bits (par ++ (stop ++ (sw ++ (cts ++ rts)))) r0 r1 r6 c.change_data_bits.ensures.wrote
+          (wrote_then has par (stop ++ (sw ++ (cts ++ rts))) r1 r2 r6 c.change_parity.ensures.wrote
+          (wrote_then has stop (sw ++ (cts ++ rts)) r2 r3 r6 c.write_stop_bits.ensures.wrote
+          (wrote_then has sw (cts ++ rts) r3 r4 r6 c.change_sw_flow_control.ensures.wrote
+          (wrote_then has cts rts r4 r5 r6 c.change_cts.ensures.wrote c.change_rts.ensures.wrote))));
       kept = search rules;
     }

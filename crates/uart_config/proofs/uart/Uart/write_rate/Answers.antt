@@ -10,7 +10,7 @@ pub returns : goal.returns
 returns g c = record {
   wrote = wrote_then g.Kind.ChipKind.properties.has_update
       (clock_writes g.Kind.ChipKind.properties g.Kind.BaudGenerator.limits.p c.args.config.now.clock_source c.args.divider.prescaler) (divider_writes c.args.divider)
-      (rest_of g.C.EventSource c.args.self.now) (g.C.EventSource.rest c.write-clock.new.self) (rest_of g.C.EventSource c.write-divider.new.self)
-      (ap (λ (m : Meaning). m.rest) c.write-clock.ensures) c.write-divider.ensures.wrote;
+      (rest_of g.C.EventSource c.args.self.now) (g.C.EventSource.rest c.write_clock.new.self) (rest_of g.C.EventSource c.write_divider.new.self)
+      (ap (λ (m : Meaning). m.rest) c.write_clock.ensures) c.write_divider.ensures.wrote;
   kept = search rules;
 }
