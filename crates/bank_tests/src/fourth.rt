@@ -4,7 +4,7 @@ ghost use Rattle.uart_chip.specs.Steps.{source_code};
 ghost use Rattle.bank_tests.specs.Fourth.{fourth_limits, fourth_has, fourth_source, fourth_properties};
 ghost use Rattle.std.proofs.Common.{rules};
 
-use uart_banks::core::Core;
+use uart_banks::bank_core::Core;
 use uart_banks::steps::Steps;
 use uart_chip::at_cmd::AtCmdConfig;
 use uart_chip::field::Field;

@@ -5,11 +5,11 @@ use uart_text::words::{Words, content, split_words};
 #[test]
 fn leaves_comments_and_line_ends_out(rt: HostRuntime) {
     for line in "a b|a b\n|a b\r\n|a b\r|a b#|a b# c # d\r\n|a b##".split('|') {
-        assert_eq!(rt; content(line.as_bytes()), b"a b");
+        assert_eq!(rt; content(line.as_bytes()), b"a b".as_slice());
     }
-    assert_eq!(rt; content(b"a\r\n#"), b"a\r\n");
-    assert_eq!(rt; content(b"a\r\r\n"), b"a\r");
-    assert_eq!(rt; content(b"a\n\r"), b"a\n");
+    assert_eq!(rt; content(b"a\r\n#"), b"a\r\n".as_slice());
+    assert_eq!(rt; content(b"a\r\r\n"), b"a\r".as_slice());
+    assert_eq!(rt; content(b"a\n\r"), b"a\n".as_slice());
 }
 
 #[test]

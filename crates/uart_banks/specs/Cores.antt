@@ -1,5 +1,5 @@
 use Rattle.std.specs.Prelude.{ℕ}
-use Rattle.uart_banks.specs.declared.core.Core.{Core}
+use Rattle.uart_banks.specs.declared.bank_core.Core.{Core}
 use Rattle.uart_chip.specs.Device.{Meaning, Rest}
 use Rattle.uart_chip.specs.Registers.{value_of}
 use Rattle.uart_chip.specs.declared.wire.Wire.{Ghosts}

@@ -1,5 +1,5 @@
 use Rattle.std.specs.Prelude.{◌≡◌, ℕ, false, cond, ◌==◌}
-use Rattle.uart_banks.specs.declared.core.Core.{Core}
+use Rattle.uart_banks.specs.declared.bank_core.Core.{Core}
 use Rattle.uart_chip.specs.Events.{none}
 use Rattle.uart_chip.specs.Fields.{index_of}
 use Rattle.uart_chip.specs.Registers.{value_of}

@@ -1,5 +1,5 @@
 // A register bank: a chip of some kind over a wire of any type.
-use super::core::Core;
+use super::bank_core::Core;
 use uart_rate::esp32::Esp32;
 use uart_rate::esp32c3::Esp32c3;
 use uart_rate::esp32c6::Esp32c6;

@@ -2,7 +2,7 @@
 ghost use Rattle.uart_banks.specs.Cores.{core_rest};
 
 use super::bank::Bank;
-use super::core::Core;
+use super::bank_core::Core;
 use super::steps::Steps;
 use uart_chip::at_cmd::AtCmdConfig;
 use uart_chip::chip::Chip;

@@ -4,7 +4,7 @@ ghost use Rattle.uart_banks.specs.Cores.{core_meaning};
 ghost use Rattle.uart_chip.specs.Device.{looked, cleared, enabling, disabling, with_rest, written, requested, polled};
 ghost use Rattle.uart_chip.specs.Steps.{written_all, given};
 
-use super::core::Core;
+use super::bank_core::Core;
 use uart_chip::events::Events;
 use uart_chip::field::Field;
 use uart_chip::source::Look;

@@ -1,5 +1,5 @@
 // The ESP32's own ways.
-use super::core::Core;
+use super::bank_core::Core;
 use super::steps::Steps;
 use uart_chip::at_cmd::AtCmdConfig;
 use uart_chip::field::Field;

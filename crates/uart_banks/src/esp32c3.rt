@@ -1,5 +1,5 @@
 // The own ways of the ESP32-C3.
-use super::core::Core;
+use super::bank_core::Core;
 use super::selected::{
     write_fast_clock, write_gated_at_cmd, write_selected_clock, write_stop_code, write_timeout_bits,
 };

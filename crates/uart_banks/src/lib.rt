@@ -2,8 +2,8 @@
 #![tactic(auto)]
 
 pub mod bank;
+pub mod bank_core;
 pub mod chip;
-pub mod core;
 pub mod device;
 pub mod esp32;
 pub mod esp32c3;

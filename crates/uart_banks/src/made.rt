@@ -3,7 +3,7 @@ ghost use Rattle.std.specs.Prelude.{◌≡◌, false};
 ghost use Rattle.uart_banks.specs.Made.{Fresh};
 
 use super::bank::Bank;
-use super::core::Core;
+use super::bank_core::Core;
 use uart_chip::events::Events;
 use uart_chip::registers::Registers;
 

@@ -7,7 +7,7 @@ ghost use Rattle.uart_chip.specs.declared.field.Field.TheVariants.{DigClk8mEn, S
 ghost use Rattle.uart_chip.specs.declared.properties.StopRule.TheVariants.{Code};
 ghost use Rattle.uart_chip.specs.declared.properties.TimeoutRule.TheVariants.{Bits};
 
-use super::core::Core;
+use super::bank_core::Core;
 use super::gate::ShutGate;
 use uart_chip::at_cmd::AtCmdConfig;
 use uart_chip::field::Field;

@@ -4,7 +4,7 @@ ghost use Rattle.uart_banks.specs.Cores.{core_meaning};
 ghost use Rattle.uart_chip.specs.Device.{with_rest};
 ghost use Rattle.uart_chip.specs.Steps.{written_all, clock_writes, stop_writes, timeout_writes, at_cmd_writes};
 
-use super::core::Core;
+use super::bank_core::Core;
 use uart_chip::at_cmd::AtCmdConfig;
 use uart_chip::kind::ChipKind;
 use uart_chip::wire::Wire;
