@@ -1,6 +1,5 @@
 use Rattle.std.proofs.Common.{◌≡◌, ℕ, refl}
 use Rattle.uart_rate.specs.Clocks.{hertz_of}
-use Rattle.uart_rate.specs.declared.clocks.Clocks.{Clocks}
 use Rattle.uart_rate.specs.declared.config.ClockSource.{ClockSource}
 use Rattle.uart_rate.specs.declared.config.ClockSource.TheVariants.{Apb, RcFast, Xtal, RefTick}
 

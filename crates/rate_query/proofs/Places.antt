@@ -1,5 +1,5 @@
 -- The texts of words, place by place.
-use Rattle.std.proofs.Common.{◌≡◌, ℕ, true, eqb, List, [], ◌∷◌, length, get_or, Decides, refl, arith, Bor, eqb-true}
+use Rattle.std.proofs.Common.{◌≡◌, ℕ, eqb, List, [], ◌∷◌, length, get_or, Decides, refl, arith, Bor, eqb-true}
 use lib.ListN.{get_or-map, length-map}
 use Rattle.uart_text.specs.Left.{texts}
 

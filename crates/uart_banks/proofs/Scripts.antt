@@ -1,8 +1,7 @@
 -- The lists of a scripted wire, one step on.
-use Rattle.std.proofs.Common.{◌≡◌, ℕ, suc, ◌+◌, ◌-◌, ◌<◌, ◌≤◌, ltb, List, [], ◌∷◌, length, get_or, take, drop, refl, ap, ◌∙◌, add-one, arith, take_all, le-ltb, lt-ltb}
+use Rattle.std.proofs.Common.{◌≡◌, ℕ, suc, ◌+◌, ◌-◌, ◌<◌, ◌≤◌, ltb, List, [], ◌∷◌, length, take, drop, refl, ap, ◌∙◌, add-one, arith, take_all, le-ltb}
 use mathlib.Core.Path.{fun_ext}
 use Rattle.std.proofs.lemmas.Bool.Decides.{nat_tests}
-use Rattle.uart_chip.specs.declared.arrival.Arrival.{Arrival}
 use Rattle.uart_banks.specs.Wires.{delay_at, arrival_at, last_count}
 
 -- what is left of a list behind its first number, as the slice pattern has it

@@ -1,4 +1,3 @@
-use Rattle.std.specs.Prelude.{ℕ}
 use Rattle.uart_banks.specs.declared.bank_core.Core.{Core}
 use Rattle.uart_chip.specs.Device.{Meaning, Rest}
 use Rattle.uart_chip.specs.Registers.{value_of}

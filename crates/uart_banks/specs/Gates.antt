@@ -1,4 +1,4 @@
-use Rattle.std.specs.Prelude.{◌≡◌, ℕ, List, [], ◌∷◌, ◌++◌}
+use Rattle.std.specs.Prelude.{◌≡◌, ℕ, List, [], ◌∷◌}
 use Rattle.uart_chip.specs.Fields.{put}
 use Rattle.uart_chip.specs.Registers.{value_of}
 use Rattle.uart_chip.specs.Steps.{Writes}

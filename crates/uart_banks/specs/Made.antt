@@ -1,4 +1,4 @@
-use Rattle.std.specs.Prelude.{◌≡◌, ℕ, false, cond, ◌==◌}
+use Rattle.std.specs.Prelude.{◌≡◌, false, cond, ◌==◌}
 use Rattle.uart_banks.specs.declared.bank_core.Core.{Core}
 use Rattle.uart_chip.specs.Events.{none}
 use Rattle.uart_chip.specs.Fields.{index_of}

@@ -1,5 +1,5 @@
 -- The nine bits of a number made of nine flags.
-use Rattle.std.proofs.Common.{◌≡◌, ℕ, ◌+◌, ◌*◌, ◌/◌, ◌%◌, ◌<◌, ◌≤◌, Bool, true, false, eqb, refl, ◌∙◌, arith, eq-eqb, ne_eqb}
+use Rattle.std.proofs.Common.{◌≡◌, ℕ, ◌+◌, ◌*◌, ◌/◌, ◌%◌, ◌≤◌, Bool, true, false, eqb, arith, eq-eqb, ne_eqb}
 use mir.Val.{bool_byte}
 
 -- a flag as a number is 1 or 0

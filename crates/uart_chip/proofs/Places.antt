@@ -1,5 +1,5 @@
 -- No two fields share a place, and an update is counted read by read.
-use Rattle.std.proofs.Common.{◌≡◌, ℕ, zero, suc, ◌+◌, ◌-◌, ◌<◌, ◌≤◌, Bool, true, false, cond, eqb, sym, refl, ap, ◌∙◌}
+use Rattle.std.proofs.Common.{◌≡◌, ℕ, cond, eqb, sym, refl, ap, ◌∙◌}
 use Rattle.uart_chip.specs.Fields.{index_of}
 use Rattle.uart_chip.specs.declared.field.Field.{Field}
 use Rattle.uart_chip.specs.declared.field.Field.TheVariants.{SclkSel, SclkDivNum, SclkDivA, SclkDivB, SclkEn, DigClk8mEn, TickRefAlwaysOn, Clkdiv, Frag, BitNum, ParityEn, Parity, StopBitNum, Dl1En, XonChar, XoffChar, XonThreshold, XoffThreshold, SwFlowConEn, XonoffDel, TxFlowEn, RxFlowEn, RxFlowThrhd, RxfifoFullThrhd, RxToutThrhd, RxToutEn, RxfifoRst, TxfifoRst, TxfifoEmptyThrhd, AtCmdChar, CharNum, PreIdleNum, PostIdleNum, RxGapTout, TxIdleNum, ErrWrMask}

@@ -1,5 +1,5 @@
 -- An update, read by read.
-use Rattle.std.proofs.Common.{◌≡◌, ℕ, zero, suc, ◌+◌, ◌-◌, ◌<◌, ◌≤◌, Bool, true, false, cond, eqb, sym, refl, ap, ◌∙◌, arith, eq-eqb, ne_eqb}
+use Rattle.std.proofs.Common.{◌≡◌, ℕ, zero, suc, ◌+◌, ◌-◌, ◌≤◌, false, refl, arith, eq-eqb, ne_eqb}
 use Rattle.uart_chip.specs.Device.{Rest, requested}
 use Rattle.uart_chip.specs.Theorems.{after_reads}
 

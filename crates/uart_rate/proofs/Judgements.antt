@@ -1,5 +1,5 @@
 -- What a judgement says, and that it leaves no choice.
-use Rattle.std.proofs.Common.{◌≡◌, ℕ, ◌+◌, ◌*◌, ◌/◌, ◌<◌, ◌≤◌, Bool, true, false, IsOkAnd, Ok, Err, Result, refl, ap, inl, inr, arith, MatchResult}
+use Rattle.std.proofs.Common.{◌≡◌, ℕ, Bool, true, false, IsOkAnd, Ok, Err, Result, refl, ap, inl, inr, arith, MatchResult}
 use Rattle.uart_rate.specs.declared.config.BaudrateTolerance.{BaudrateTolerance}
 use Rattle.uart_rate.specs.declared.config.BaudrateTolerance.TheVariants.{Closest, Exact, ErrorPercent}
 use Rattle.uart_rate.specs.declared.divider.Divider.{Divider}
@@ -8,7 +8,7 @@ use Rattle.uart_rate.specs.declared.refusal.Refusal.{Refusal}
 use Rattle.uart_rate.specs.declared.refusal.Refusal.TheVariants.{DividerOutOfRange}
 use Rattle.uart_rate.specs.Decided.{SameAnswer, SameDivider}
 use Rattle.uart_rate.specs.Judging.{Judged, percent_out_of_range, baudrate_not_supported, clock_not_usable, divider_out_of_range, accepted, Divides, IsOutOfBounds, prescaler_too_large, divider_zero, integer_too_large, IsBaudInRange, IsBaudOutOfRange, IsPercentInRange, IsPercentOutOfRange, IsClockUsable, IsClockUnusable, source_missing, stopped, too_high}
-use Rattle.uart_rate.specs.Rates.{RateLaw, sixteenths_of}
+use Rattle.uart_rate.specs.Rates.{sixteenths_of}
 use Rattle.uart_rate.proofs.Unique.{one_prescaler, one_law}
 
 -- an accepted divider is one for a baud rate in range

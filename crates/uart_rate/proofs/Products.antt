@@ -1,5 +1,5 @@
 -- Facts about products and quotients that the rate rules rest on.
-use Rattle.std.proofs.Common.{◌≡◌, ℕ, ◌+◌, ◌-◌, ◌*◌, ◌/◌, ◌<◌, ◌≤◌, sym, refl, ap, ◌∙◌, mul_assoc, mul_comm, div-lt_iff_lt-mul, add-mul, one-mul, mul-one, mul-add, div-mul-le_self, arith}
+use Rattle.std.proofs.Common.{◌≡◌, ℕ, ◌+◌, ◌-◌, ◌*◌, ◌/◌, ◌<◌, ◌≤◌, ap, ◌∙◌, mul_assoc, mul_comm, div-lt_iff_lt-mul, add-mul, one-mul, mul-one, mul-add, div-mul-le_self, arith}
 use native.Mathlib.Nat.{lt-div-mul-add}
 use Rattle.std.proofs.lemmas.Nat.{mul-le}
 use Rattle.uart_rate.specs.Rates.{LeastPrescaler, RateLaw, prescaler_of, divisor_of}

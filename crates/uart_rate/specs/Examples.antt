@@ -1,4 +1,4 @@
-use Rattle.std.specs.Prelude.{◌≡◌, ℕ, ◌+◌, ◌*◌, true, Ok, Err}
+use Rattle.std.specs.Prelude.{◌≡◌, ℕ, true, Ok, Err}
 use Rattle.uart_rate.specs.declared.achieved.Achieved.{Achieved}
 use Rattle.uart_rate.specs.declared.config.BaudrateTolerance.{BaudrateTolerance}
 use Rattle.uart_rate.specs.declared.config.BaudrateTolerance.TheVariants.{Closest, Exact, ErrorPercent}

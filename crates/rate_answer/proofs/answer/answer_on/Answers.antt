@@ -1,4 +1,4 @@
-use Rattle.std.proofs.Common.{◌≡◌, true, sym, ap, ◌∙◌, rules}
+use Rattle.std.proofs.Common.{◌≡◌, true, sym, ap, ◌∙◌}
 use Rattle.rate_answer.proofs.Sources.{all_alike}
 use Rattle.rate_answer.proofs.answer.answer_on.Goals as goal
 

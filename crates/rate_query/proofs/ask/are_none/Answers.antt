@@ -1,4 +1,3 @@
-use Rattle.std.proofs.Common.{refl, ap, ◌∙◌}
 use Rattle.rate_query.proofs.Places.{empty}
 use Rattle.rate_query.proofs.ask.are_none.Goals as goal
 

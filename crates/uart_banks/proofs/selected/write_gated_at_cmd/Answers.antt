@@ -1,4 +1,4 @@
-use Rattle.std.proofs.Common.{◌≡◌, ℕ, true, List, [], ◌∷◌, ◌++◌, sym, refl, ap, ◌∙◌, append_assoc}
+use Rattle.std.proofs.Common.{◌≡◌, ℕ, true, List, [], ◌∷◌, ◌++◌, sym, ap, ◌∙◌, append_assoc}
 use Rattle.uart_chip.specs.Device.{Rest, with_rest}
 use Rattle.uart_chip.specs.Fields.{put}
 use Rattle.uart_chip.specs.Registers.{value_of}

@@ -1,4 +1,4 @@
-use Rattle.std.proofs.Common.{◌*◌, ◌<◌, ◌≤◌, refl, arith, rules}
+use Rattle.std.proofs.Common.{◌*◌, ◌<◌, ◌≤◌, refl, rules}
 use Rattle.uart_rate.specs.Rates.{sixteenths_of}
 use Rattle.uart_rate.proofs.Heads.{at_most, below_twice, below_million, head_rate}
 use Rattle.uart_rate.proofs.achieve.run.Goals as goal

@@ -1,4 +1,4 @@
-use Rattle.std.proofs.Common.{◌∙◌, arith, rules}
+use Rattle.std.proofs.Common.{◌∙◌, rules}
 use Rattle.uart_chip.proofs.Files.{written}
 use Rattle.uart_chip.proofs.registers.Registers.write.Goals as goal
 
