@@ -35,7 +35,7 @@ impl<C: Chip> Uart<C> {
         clk: u32,
         divider: Divider,
     ) -> Result<u32, Fault>
-        ensures ran { applied Kind-as-ChipKind.properties Kind-as-BaudGenerator.limits.p self.old.budget config.now clk divider (rest_of C.EventSource self.old) ≡ out C.EventSource result self.new }
+        ensures ran { applied C.Kind.ChipKind.properties C.Kind.BaudGenerator.limits.p self.old.budget config.now clk divider (rest_of C.EventSource self.old) ≡ out C.EventSource result self.new }
         ensures kept { Kept C.EventSource self.old self.new }
         ensures few { IfOk result (λ k. k ≤ 458745) }
     {
@@ -48,7 +48,7 @@ impl<C: Chip> Uart<C> {
 
     // The judgement, and then the five steps.
     fn judge_and_configure(&mut self, config: &Config, clocks: &Clocks) -> Result<u32, Fault>
-        ensures applies { Applies Kind-as-BaudGenerator.limits Kind-as-BaudGenerator.has Kind-as-ChipKind.properties self.old.budget config.now clocks.now result (rest_of C.EventSource self.old) (rest_of C.EventSource self.new) }
+        ensures applies { Applies C.Kind.BaudGenerator.limits C.Kind.BaudGenerator.has C.Kind.ChipKind.properties self.old.budget config.now clocks.now result (rest_of C.EventSource self.old) (rest_of C.EventSource self.new) }
         ensures kept { Kept C.EventSource self.old self.new }
     {
         let divider = judged::<C::Kind>(config, clocks)?;

@@ -33,7 +33,7 @@ fn verify_baudrate(config: &Config, clk: u32, divider: Divider, before: u32) -> 
 impl<C: Chip> Uart<C> {
     // Writes the divider's two fields.
     fn write_divider(&mut self, divider: Divider)
-        ensures wrote { Wrote C.EventSource Kind-as-ChipKind.properties (divider_writes divider) self.old self.new }
+        ensures wrote { Wrote C.EventSource C.Kind.ChipKind.properties (divider_writes divider) self.old self.new }
         ensures kept { Kept C.EventSource self.old self.new }
     {
         self.chip.write(Field::Clkdiv, divider.integer);
@@ -42,7 +42,7 @@ impl<C: Chip> Uart<C> {
 
     // Writes the clock source, the prescaler and the divider.
     fn write_rate(&mut self, config: &Config, divider: Divider)
-        ensures wrote { Wrote C.EventSource Kind-as-ChipKind.properties (clock_writes Kind-as-ChipKind.properties Kind-as-BaudGenerator.limits.p config.now.clock_source divider.prescaler ++ divider_writes divider) self.old self.new }
+        ensures wrote { Wrote C.EventSource C.Kind.ChipKind.properties (clock_writes C.Kind.ChipKind.properties C.Kind.BaudGenerator.limits.p config.now.clock_source divider.prescaler ++ divider_writes divider) self.old self.new }
         ensures kept { Kept C.EventSource self.old self.new }
     {
         self.chip
@@ -59,7 +59,7 @@ impl<C: Chip> Uart<C> {
         before: u32,
     ) -> Result<u32, Fault>
         requires { before ≤ 900000 }
-        ensures ran { runs C.EventSource Kind-as-ChipKind.properties (divider_rows Kind-as-ChipKind.properties Kind-as-BaudGenerator.limits.p config.now clk divider) before self.old ≡ out C.EventSource result self.new }
+        ensures ran { runs C.EventSource C.Kind.ChipKind.properties (divider_rows C.Kind.ChipKind.properties C.Kind.BaudGenerator.limits.p config.now clk divider) before self.old ≡ out C.EventSource result self.new }
         ensures kept { Kept C.EventSource self.old self.new }
         ensures few { IfOk result (λ k. k ≤ before + 65535) }
     {

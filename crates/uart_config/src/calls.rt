@@ -15,7 +15,7 @@ use uart_chip::source::EventSource;
 
 impl<C: Chip> Uart<C> {
     fn threshold_by_table(&mut self, threshold: u16) -> Result<u32, Fault>
-        ensures carried { Carried Kind-as-ChipKind.properties.has_update self.old.budget (threshold_row threshold ∷ []) 0 result (rest_of C.EventSource self.old) (rest_of C.EventSource self.new) }
+        ensures carried { Carried C.Kind.ChipKind.properties.has_update self.old.budget (threshold_row threshold ∷ []) 0 result (rest_of C.EventSource self.old) (rest_of C.EventSource self.new) }
         ensures kept { Kept C.EventSource self.old self.new }
     {
         self.change_rx_threshold(threshold, 0)
@@ -23,14 +23,14 @@ impl<C: Chip> Uart<C> {
 
     // Sets the fill of the receive FIFO for `FifoFull`.
     pub fn set_rx_fifo_full_threshold(&mut self, threshold: u16) -> Result<u32, Fault>
-        ensures carried { Carried Kind-as-ChipKind.properties.has_update self.old.budget (threshold_row threshold ∷ []) 0 result (rest_of C.EventSource self.old) (rest_of C.EventSource self.new) }
+        ensures carried { Carried C.Kind.ChipKind.properties.has_update self.old.budget (threshold_row threshold ∷ []) 0 result (rest_of C.EventSource self.old) (rest_of C.EventSource self.new) }
         ensures kept { Kept C.EventSource self.old self.new }
     {
         self.threshold_by_table(threshold)
     }
 
     fn timeout_by_table(&mut self, timeout: Option<u8>) -> Result<u32, Fault>
-        ensures carried { Carried Kind-as-ChipKind.properties.has_update self.old.budget (timeout_row Kind-as-ChipKind.properties (rest_of C.EventSource self.old).fields timeout ∷ []) 0 result (rest_of C.EventSource self.old) (rest_of C.EventSource self.new) }
+        ensures carried { Carried C.Kind.ChipKind.properties.has_update self.old.budget (timeout_row C.Kind.ChipKind.properties (rest_of C.EventSource self.old).fields timeout ∷ []) 0 result (rest_of C.EventSource self.old) (rest_of C.EventSource self.new) }
         ensures kept { Kept C.EventSource self.old self.new }
     {
         self.change_rx_timeout(timeout, 0)
@@ -38,7 +38,7 @@ impl<C: Chip> Uart<C> {
 
     // Sets the receive timeout, or that there is none.
     pub fn set_rx_timeout(&mut self, timeout: Option<u8>) -> Result<u32, Fault>
-        ensures carried { Carried Kind-as-ChipKind.properties.has_update self.old.budget (timeout_row Kind-as-ChipKind.properties (rest_of C.EventSource self.old).fields timeout ∷ []) 0 result (rest_of C.EventSource self.old) (rest_of C.EventSource self.new) }
+        ensures carried { Carried C.Kind.ChipKind.properties.has_update self.old.budget (timeout_row C.Kind.ChipKind.properties (rest_of C.EventSource self.old).fields timeout ∷ []) 0 result (rest_of C.EventSource self.old) (rest_of C.EventSource self.new) }
         ensures kept { Kept C.EventSource self.old self.new }
     {
         self.timeout_by_table(timeout)
@@ -46,7 +46,7 @@ impl<C: Chip> Uart<C> {
 
     // What makes an AT command, and an update.
     fn change_at_cmd(&mut self, config: AtCmdConfig) -> Result<u32, Fault>
-        ensures ran { runs C.EventSource Kind-as-ChipKind.properties (at_cmd_rows Kind-as-ChipKind.properties config) 0 self.old ≡ out C.EventSource result self.new }
+        ensures ran { runs C.EventSource C.Kind.ChipKind.properties (at_cmd_rows C.Kind.ChipKind.properties config) 0 self.old ≡ out C.EventSource result self.new }
         ensures kept { Kept C.EventSource self.old self.new }
     {
         self.chip.write_at_cmd(config);
@@ -54,7 +54,7 @@ impl<C: Chip> Uart<C> {
     }
 
     fn at_cmd_by_table(&mut self, config: AtCmdConfig) -> Result<u32, Fault>
-        ensures carried { Carried Kind-as-ChipKind.properties.has_update self.old.budget (at_cmd_rows Kind-as-ChipKind.properties config) 0 result (rest_of C.EventSource self.old) (rest_of C.EventSource self.new) }
+        ensures carried { Carried C.Kind.ChipKind.properties.has_update self.old.budget (at_cmd_rows C.Kind.ChipKind.properties config) 0 result (rest_of C.EventSource self.old) (rest_of C.EventSource self.new) }
         ensures kept { Kept C.EventSource self.old self.new }
     {
         self.change_at_cmd(config)
@@ -62,7 +62,7 @@ impl<C: Chip> Uart<C> {
 
     // Sets what makes an AT command.
     pub fn set_at_cmd(&mut self, config: AtCmdConfig) -> Result<u32, Fault>
-        ensures carried { Carried Kind-as-ChipKind.properties.has_update self.old.budget (at_cmd_rows Kind-as-ChipKind.properties config) 0 result (rest_of C.EventSource self.old) (rest_of C.EventSource self.new) }
+        ensures carried { Carried C.Kind.ChipKind.properties.has_update self.old.budget (at_cmd_rows C.Kind.ChipKind.properties config) 0 result (rest_of C.EventSource self.old) (rest_of C.EventSource self.new) }
         ensures kept { Kept C.EventSource self.old self.new }
     {
         self.at_cmd_by_table(config)

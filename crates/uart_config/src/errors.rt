@@ -33,7 +33,7 @@ fn error_events() -> Events
 impl<C: Chip> Uart<C> {
     // The receive FIFO's reset after an overflow: its polls are told with the error, and its fault in place of it.
     fn reset_overflowed(&mut self) -> Fault
-        ensures ran { recovered Kind-as-ChipKind.properties.has_update self.old.budget (RxError.FifoOverflowed) (rest_of C.EventSource self.old) ≡ out C.EventSource (Err result) self.new }
+        ensures ran { recovered C.Kind.ChipKind.properties.has_update self.old.budget (RxError.FifoOverflowed) (rest_of C.EventSource self.old) ≡ out C.EventSource (Err result) self.new }
         ensures kept { Kept C.EventSource self.old self.new }
     {
         match self.reset(Fifo::Rx, Step::ErrorReset, 0) {
@@ -44,7 +44,7 @@ impl<C: Chip> Uart<C> {
 
     // What follows a line error.
     fn follow(&mut self, error: RxError) -> Fault
-        ensures ran { recovered Kind-as-ChipKind.properties.has_update self.old.budget error (rest_of C.EventSource self.old) ≡ out C.EventSource (Err result) self.new }
+        ensures ran { recovered C.Kind.ChipKind.properties.has_update self.old.budget error (rest_of C.EventSource self.old) ≡ out C.EventSource (Err result) self.new }
         ensures kept { Kept C.EventSource self.old self.new }
     {
         match error {
@@ -57,7 +57,7 @@ impl<C: Chip> Uart<C> {
 
     // The same, by the table of a reset.
     fn follow_by_table(&mut self, error: RxError) -> Fault
-        ensures recovers { Recovers Kind-as-ChipKind.properties.has_update self.old.budget error result (rest_of C.EventSource self.old) (rest_of C.EventSource self.new) }
+        ensures recovers { Recovers C.Kind.ChipKind.properties.has_update self.old.budget error result (rest_of C.EventSource self.old) (rest_of C.EventSource self.new) }
         ensures kept { Kept C.EventSource self.old self.new }
     {
         self.follow(error)
@@ -65,7 +65,7 @@ impl<C: Chip> Uart<C> {
 
     // What follows a line error, and the fault to answer: after an overflow the receive FIFO is reset.
     pub fn recover(&mut self, error: RxError) -> Fault
-        ensures recovers { Recovers Kind-as-ChipKind.properties.has_update self.old.budget error result (rest_of C.EventSource self.old) (rest_of C.EventSource self.new) }
+        ensures recovers { Recovers C.Kind.ChipKind.properties.has_update self.old.budget error result (rest_of C.EventSource self.old) (rest_of C.EventSource self.new) }
         ensures kept { Kept C.EventSource self.old self.new }
     {
         self.follow_by_table(error)
@@ -73,7 +73,7 @@ impl<C: Chip> Uart<C> {
 
     // Clears the error events, and does what follows the error.
     fn clear_and_recover(&mut self, error: RxError) -> Fault
-        ensures recovers { Recovers Kind-as-ChipKind.properties.has_update self.old.budget error result (rest_of C.EventSource self.old) (rest_of C.EventSource self.new) }
+        ensures recovers { Recovers C.Kind.ChipKind.properties.has_update self.old.budget error result (rest_of C.EventSource self.old) (rest_of C.EventSource self.new) }
         ensures events { meaning C.EventSource self.new.chip ≡ with_rest (rest_of C.EventSource self.new) (cleared error_events (meaning C.EventSource self.old.chip)) }
         ensures budget { self.new.budget ≡ self.old.budget }
     {
@@ -83,7 +83,7 @@ impl<C: Chip> Uart<C> {
 
     // Looks, and tells the first line error.
     fn look_for_errors(&mut self) -> Result<u32, Fault>
-        ensures checks { Checks Kind-as-ChipKind.properties.has_update self.old.budget result (meaning C.EventSource self.old.chip) (meaning C.EventSource self.new.chip) }
+        ensures checks { Checks C.Kind.ChipKind.properties.has_update self.old.budget result (meaning C.EventSource self.old.chip) (meaning C.EventSource self.new.chip) }
         ensures budget { self.new.budget ≡ self.old.budget }
     {
         let look = self.chip.look();
@@ -95,7 +95,7 @@ impl<C: Chip> Uart<C> {
 
     // The error check.
     pub fn check_for_errors(&mut self) -> Result<u32, Fault>
-        ensures checks { Checks Kind-as-ChipKind.properties.has_update self.old.budget result (meaning C.EventSource self.old.chip) (meaning C.EventSource self.new.chip) }
+        ensures checks { Checks C.Kind.ChipKind.properties.has_update self.old.budget result (meaning C.EventSource self.old.chip) (meaning C.EventSource self.new.chip) }
         ensures budget { self.new.budget ≡ self.old.budget }
     {
         self.look_for_errors()

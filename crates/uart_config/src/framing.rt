@@ -16,7 +16,7 @@ use uart_rate::config::{Config, CtsConfig, DataBits, Parity, RtsConfig, SwFlowCo
 
 impl<C: Chip> Uart<C> {
     fn change_data_bits(&mut self, data_bits: DataBits)
-        ensures wrote { Wrote C.EventSource Kind-as-ChipKind.properties (data_writes data_bits) self.old self.new }
+        ensures wrote { Wrote C.EventSource C.Kind.ChipKind.properties (data_writes data_bits) self.old self.new }
         ensures kept { Kept C.EventSource self.old self.new }
     {
         let code = match data_bits {
@@ -29,7 +29,7 @@ impl<C: Chip> Uart<C> {
     }
 
     fn change_parity(&mut self, parity: Parity)
-        ensures wrote { Wrote C.EventSource Kind-as-ChipKind.properties (parity_writes parity) self.old self.new }
+        ensures wrote { Wrote C.EventSource C.Kind.ChipKind.properties (parity_writes parity) self.old self.new }
         ensures kept { Kept C.EventSource self.old self.new }
     {
         match parity {
@@ -47,7 +47,7 @@ impl<C: Chip> Uart<C> {
 
     // Flow control by characters.
     fn change_sw_flow_control(&mut self, sw_flow_ctrl: SwFlowControl)
-        ensures wrote { Wrote C.EventSource Kind-as-ChipKind.properties (sw_writes sw_flow_ctrl) self.old self.new }
+        ensures wrote { Wrote C.EventSource C.Kind.ChipKind.properties (sw_writes sw_flow_ctrl) self.old self.new }
         ensures kept { Kept C.EventSource self.old self.new }
     {
         match sw_flow_ctrl {
@@ -74,7 +74,7 @@ impl<C: Chip> Uart<C> {
     }
 
     fn change_cts(&mut self, cts: CtsConfig)
-        ensures wrote { Wrote C.EventSource Kind-as-ChipKind.properties (cts_writes cts) self.old self.new }
+        ensures wrote { Wrote C.EventSource C.Kind.ChipKind.properties (cts_writes cts) self.old self.new }
         ensures kept { Kept C.EventSource self.old self.new }
     {
         match cts {
@@ -84,7 +84,7 @@ impl<C: Chip> Uart<C> {
     }
 
     fn change_rts(&mut self, rts: RtsConfig)
-        ensures wrote { Wrote C.EventSource Kind-as-ChipKind.properties (rts_writes rts) self.old self.new }
+        ensures wrote { Wrote C.EventSource C.Kind.ChipKind.properties (rts_writes rts) self.old self.new }
         ensures kept { Kept C.EventSource self.old self.new }
     {
         match rts {
@@ -97,7 +97,7 @@ impl<C: Chip> Uart<C> {
     }
 
     fn write_stop_bits(&mut self, config: &Config)
-        ensures wrote { Wrote C.EventSource Kind-as-ChipKind.properties (stop_writes Kind-as-ChipKind.properties.stop_rule config.now.stop_bits) self.old self.new }
+        ensures wrote { Wrote C.EventSource C.Kind.ChipKind.properties (stop_writes C.Kind.ChipKind.properties.stop_rule config.now.stop_bits) self.old self.new }
         ensures kept { Kept C.EventSource self.old self.new }
     {
         self.chip.write_stop(config.stop_bits);
@@ -105,7 +105,7 @@ impl<C: Chip> Uart<C> {
 
     // Writes framing and flow control.
     fn write_framing(&mut self, config: &Config)
-        ensures wrote { Wrote C.EventSource Kind-as-ChipKind.properties (framing_writes Kind-as-ChipKind.properties config.now) self.old self.new }
+        ensures wrote { Wrote C.EventSource C.Kind.ChipKind.properties (framing_writes C.Kind.ChipKind.properties config.now) self.old self.new }
         ensures kept { Kept C.EventSource self.old self.new }
     {
         self.change_data_bits(config.data_bits);
@@ -119,7 +119,7 @@ impl<C: Chip> Uart<C> {
     // Framing and flow control, with an update where the chip wants one.
     pub(crate) fn change_framing(&mut self, config: &Config, before: u32) -> Result<u32, Fault>
         requires { before ≤ 900000 }
-        ensures ran { runs C.EventSource Kind-as-ChipKind.properties (framing_rows Kind-as-ChipKind.properties config.now) before self.old ≡ out C.EventSource result self.new }
+        ensures ran { runs C.EventSource C.Kind.ChipKind.properties (framing_rows C.Kind.ChipKind.properties config.now) before self.old ≡ out C.EventSource result self.new }
         ensures kept { Kept C.EventSource self.old self.new }
         ensures few { IfOk result (λ k. k ≤ before + 65535) }
     {

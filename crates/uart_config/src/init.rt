@@ -43,7 +43,7 @@ impl<C: Chip> Uart<C> {
 
     // No idle time between transfers, and no faulty bytes in the receive FIFO.
     fn write_idle_and_mask(&mut self)
-        ensures wrote { Wrote C.EventSource Kind-as-ChipKind.properties idle_writes self.old self.new }
+        ensures wrote { Wrote C.EventSource C.Kind.ChipKind.properties idle_writes self.old self.new }
         ensures kept { Kept C.EventSource self.old self.new }
     {
         self.chip.write(Field::TxIdleNum, 0);
@@ -52,7 +52,7 @@ impl<C: Chip> Uart<C> {
 
     // The writing of an init.
     fn start(&mut self, config: &Config, clk: u32, divider: Divider) -> Result<u32, Fault>
-        ensures ran { started Kind-as-ChipKind.properties Kind-as-BaudGenerator.limits.p self.old.budget config.now clk divider (rest_of C.EventSource self.old) ≡ out C.EventSource result self.new }
+        ensures ran { started C.Kind.ChipKind.properties C.Kind.BaudGenerator.limits.p self.old.budget config.now clk divider (rest_of C.EventSource self.old) ≡ out C.EventSource result self.new }
         ensures kept { Kept C.EventSource self.old self.new }
     {
         let reads = self.configure(config, clk, divider)?;
@@ -64,7 +64,7 @@ impl<C: Chip> Uart<C> {
 
     // All of an init.
     fn prepare_and_start(&mut self, config: &Config, clocks: &Clocks) -> Result<u32, Fault>
-        ensures inits { Inits Kind-as-BaudGenerator.limits Kind-as-BaudGenerator.has Kind-as-ChipKind.properties self.old.budget config.now clocks.now result (meaning C.EventSource self.old.chip) (meaning C.EventSource self.new.chip) }
+        ensures inits { Inits C.Kind.BaudGenerator.limits C.Kind.BaudGenerator.has C.Kind.ChipKind.properties self.old.budget config.now clocks.now result (meaning C.EventSource self.old.chip) (meaning C.EventSource self.new.chip) }
         ensures budget { self.new.budget ≡ self.old.budget }
     {
         self.disable_interrupts();

@@ -21,7 +21,7 @@ use uart_rate::refusal::Refusal;
 impl<C: Chip> Uart<C> {
     // The fill of the receive FIFO for `FifoFull`: 127 at the most.
     pub(crate) fn change_rx_threshold(&mut self, threshold: u16, before: u32) -> Result<u32, Fault>
-        ensures ran { runs C.EventSource Kind-as-ChipKind.properties (threshold_row threshold ∷ []) before self.old ≡ out C.EventSource result self.new }
+        ensures ran { runs C.EventSource C.Kind.ChipKind.properties (threshold_row threshold ∷ []) before self.old ≡ out C.EventSource result self.new }
         ensures kept { Kept C.EventSource self.old self.new }
         ensures few { IfOk result (λ k. k ≤ before + 0) }
     {
@@ -35,14 +35,14 @@ impl<C: Chip> Uart<C> {
 
     // Whether a timeout is too long for the chip.
     fn is_too_long(&self, timeout: Option<u8>) -> bool
-        ensures { result ≡ too_long Kind-as-ChipKind.properties.timeout_rule (rest_of C.EventSource self.now).fields timeout }
+        ensures { result ≡ too_long C.Kind.ChipKind.properties.timeout_rule (rest_of C.EventSource self.now).fields timeout }
     {
         let Some(symbols) = timeout else {
             return false;
         };
         match C::Kind::properties().timeout_rule {
             TimeoutRule::Symbols => symbols > 127,
-            TimeoutRule::Bits => u64::from(symbols) * symbol_length(self.chip.registers()) > 1023,
+            TimeoutRule::Bits => u64::from(symbols) * symbol_length(&self.chip.registers()) > 1023,
         }
     }
 

@@ -29,7 +29,7 @@ impl<C: Chip> Uart<C> {
     // Holds a FIFO in reset. If the update times out the FIFO is let go again.
     fn hold_reset(&mut self, fifo: Fifo, step: Step, before: u32) -> Result<HeldReset, Fault>
         requires { before ≤ 1000000 }
-        ensures ran { MatchResult result (λ h. runs C.EventSource Kind-as-ChipKind.properties (on_row fifo step ∷ []) before self.old ≡ out C.EventSource (Ok h.reads) self.new) (λ f. runs C.EventSource Kind-as-ChipKind.properties (on_row fifo step ∷ []) before self.old ≡ out C.EventSource (Err f) self.new) }
+        ensures ran { MatchResult result (λ h. runs C.EventSource C.Kind.ChipKind.properties (on_row fifo step ∷ []) before self.old ≡ out C.EventSource (Ok h.reads) self.new) (λ f. runs C.EventSource C.Kind.ChipKind.properties (on_row fifo step ∷ []) before self.old ≡ out C.EventSource (Err f) self.new) }
         ensures held { IfOk result (λ h. (h.fifo ≡ fifo) × (h.step ≡ step)) }
         ensures kept { Kept C.EventSource self.old self.new }
         ensures few { IfOk result (λ h. h.reads ≤ before + 65535) }
@@ -55,7 +55,7 @@ impl<C: Chip> Uart<C> {
     // Lets a FIFO go that was held in reset.
     fn release_reset(&mut self, held: HeldReset) -> Result<u32, Fault>
         requires { held.reads ≤ 1000000 }
-        ensures ran { runs C.EventSource Kind-as-ChipKind.properties (update_row held.step None ((reset_field held.fifo, 0) ∷ []) ∷ []) held.reads self.old ≡ out C.EventSource result self.new }
+        ensures ran { runs C.EventSource C.Kind.ChipKind.properties (update_row held.step None ((reset_field held.fifo, 0) ∷ []) ∷ []) held.reads self.old ≡ out C.EventSource result self.new }
         ensures kept { Kept C.EventSource self.old self.new }
         ensures few { IfOk result (λ k. k ≤ held.reads + 65535) }
     {
@@ -72,7 +72,7 @@ impl<C: Chip> Uart<C> {
     // Resets a FIFO, in a step of a call that has polled `before` times.
     pub(crate) fn reset(&mut self, fifo: Fifo, step: Step, before: u32) -> Result<u32, Fault>
         requires { before ≤ 900000 }
-        ensures ran { runs C.EventSource Kind-as-ChipKind.properties (reset_rows fifo step) before self.old ≡ out C.EventSource result self.new }
+        ensures ran { runs C.EventSource C.Kind.ChipKind.properties (reset_rows fifo step) before self.old ≡ out C.EventSource result self.new }
         ensures kept { Kept C.EventSource self.old self.new }
         ensures few { IfOk result (λ k. k ≤ before + 131070) }
     {

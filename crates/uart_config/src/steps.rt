@@ -27,7 +27,7 @@ impl<C: Chip> Uart<C> {
         before: u32,
     ) -> Result<u32, Fault>
         requires { before ≤ 900000 }
-        ensures ran { steps C.EventSource Kind-as-ChipKind.properties (divider_rows Kind-as-ChipKind.properties Kind-as-BaudGenerator.limits.p config.now clk divider) before self.old ≡ out C.EventSource result self.new }
+        ensures ran { steps C.EventSource C.Kind.ChipKind.properties (divider_rows C.Kind.ChipKind.properties C.Kind.BaudGenerator.limits.p config.now clk divider) before self.old ≡ out C.EventSource result self.new }
         ensures kept { Kept C.EventSource self.old self.new }
         ensures few { IfOk result (λ k. k ≤ before + 65535) }
     {
@@ -37,7 +37,7 @@ impl<C: Chip> Uart<C> {
     // Step 2: framing and flow control.
     pub(crate) fn frame(&mut self, config: &Config, before: u32) -> Result<u32, Fault>
         requires { before ≤ 900000 }
-        ensures ran { steps C.EventSource Kind-as-ChipKind.properties (framing_rows Kind-as-ChipKind.properties config.now) before self.old ≡ out C.EventSource result self.new }
+        ensures ran { steps C.EventSource C.Kind.ChipKind.properties (framing_rows C.Kind.ChipKind.properties config.now) before self.old ≡ out C.EventSource result self.new }
         ensures kept { Kept C.EventSource self.old self.new }
         ensures few { IfOk result (λ k. k ≤ before + 65535) }
     {
@@ -47,7 +47,7 @@ impl<C: Chip> Uart<C> {
     // Step 3: the receiver.
     pub(crate) fn receive(&mut self, config: &RxConfig, before: u32) -> Result<u32, Fault>
         requires { before ≤ 900000 }
-        ensures ran { steps C.EventSource Kind-as-ChipKind.properties (receive_rows Kind-as-ChipKind.properties (rest_of C.EventSource self.old).fields config.now) before self.old ≡ out C.EventSource result self.new }
+        ensures ran { steps C.EventSource C.Kind.ChipKind.properties (receive_rows C.Kind.ChipKind.properties (rest_of C.EventSource self.old).fields config.now) before self.old ≡ out C.EventSource result self.new }
         ensures kept { Kept C.EventSource self.old self.new }
         ensures few { IfOk result (λ k. k ≤ before + 65535) }
     {
@@ -57,7 +57,7 @@ impl<C: Chip> Uart<C> {
     // Step 4: the receive FIFO's reset.
     pub(crate) fn reset_rx(&mut self, before: u32) -> Result<u32, Fault>
         requires { before ≤ 900000 }
-        ensures ran { steps C.EventSource Kind-as-ChipKind.properties (reset_rows Rx RxReset) before self.old ≡ out C.EventSource result self.new }
+        ensures ran { steps C.EventSource C.Kind.ChipKind.properties (reset_rows Rx RxReset) before self.old ≡ out C.EventSource result self.new }
         ensures kept { Kept C.EventSource self.old self.new }
         ensures few { IfOk result (λ k. k ≤ before + 131070) }
     {
@@ -67,7 +67,7 @@ impl<C: Chip> Uart<C> {
     // Step 5: the transmitter.
     pub(crate) fn transmit(&mut self, config: &TxConfig, before: u32) -> Result<u32, Fault>
         requires { before ≤ 800000 }
-        ensures ran { steps C.EventSource Kind-as-ChipKind.properties (transmit_rows config.now) before self.old ≡ out C.EventSource result self.new }
+        ensures ran { steps C.EventSource C.Kind.ChipKind.properties (transmit_rows config.now) before self.old ≡ out C.EventSource result self.new }
         ensures kept { Kept C.EventSource self.old self.new }
         ensures few { IfOk result (λ k. k ≤ before + 131070) }
     {
@@ -77,7 +77,7 @@ impl<C: Chip> Uart<C> {
     // Step 5 without its threshold: the transmit FIFO's reset alone.
     pub(crate) fn reset_tx(&mut self, before: u32) -> Result<u32, Fault>
         requires { before ≤ 800000 }
-        ensures ran { steps C.EventSource Kind-as-ChipKind.properties (reset_rows Tx Transmit) before self.old ≡ out C.EventSource result self.new }
+        ensures ran { steps C.EventSource C.Kind.ChipKind.properties (reset_rows Tx Transmit) before self.old ≡ out C.EventSource result self.new }
         ensures kept { Kept C.EventSource self.old self.new }
         ensures few { IfOk result (λ k. k ≤ before + 131070) }
     {

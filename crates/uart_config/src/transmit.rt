@@ -18,7 +18,7 @@ use uart_rate::refusal::Refusal;
 impl<C: Chip> Uart<C> {
     // The fill of the transmit FIFO for `FiFoEmpty`: 127 at the most.
     fn change_tx_threshold(&mut self, threshold: u16, before: u32) -> Result<u32, Fault>
-        ensures ran { runs C.EventSource Kind-as-ChipKind.properties (tx_threshold_row threshold ∷ []) before self.old ≡ out C.EventSource result self.new }
+        ensures ran { runs C.EventSource C.Kind.ChipKind.properties (tx_threshold_row threshold ∷ []) before self.old ≡ out C.EventSource result self.new }
         ensures kept { Kept C.EventSource self.old self.new }
         ensures few { IfOk result (λ k. k ≤ before + 0) }
     {
@@ -33,7 +33,7 @@ impl<C: Chip> Uart<C> {
     // The transmitter's settings, and a reset of its FIFO.
     pub(crate) fn configure_tx(&mut self, config: &TxConfig, before: u32) -> Result<u32, Fault>
         requires { before ≤ 800000 }
-        ensures ran { runs C.EventSource Kind-as-ChipKind.properties (transmit_rows config.now) before self.old ≡ out C.EventSource result self.new }
+        ensures ran { runs C.EventSource C.Kind.ChipKind.properties (transmit_rows config.now) before self.old ≡ out C.EventSource result self.new }
         ensures kept { Kept C.EventSource self.old self.new }
         ensures few { IfOk result (λ k. k ≤ before + 131070) }
     {

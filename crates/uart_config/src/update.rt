@@ -14,7 +14,7 @@ impl<C: Chip> Uart<C> {
     // Lets the line fields take effect, in a call that has polled `before` times.
     pub(crate) fn update(&mut self, step: Step, before: u32) -> Result<u32, Fault>
         requires { before ≤ 1000000 }
-        ensures ran { synced Kind-as-ChipKind.properties.has_update self.old.budget step before (rest_of C.EventSource self.old) ≡ out C.EventSource result self.new }
+        ensures ran { synced C.Kind.ChipKind.properties.has_update self.old.budget step before (rest_of C.EventSource self.old) ≡ out C.EventSource result self.new }
         ensures kept { Kept C.EventSource self.old self.new }
         ensures few { IfOk result (λ k. k ≤ before + 65535) }
     {

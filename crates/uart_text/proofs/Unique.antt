@@ -1,6 +1,6 @@
 -- A line has one content, and one list of words.
 use Rattle.std.proofs.Common.{◌≡◌, ℕ, true, false, ◌≢◌, List, [], ◌∷◌, ◌++◌, sym, refl, ◌∙◌, subst, inl, inr, ⊎_elim, append_assoc, append-nil, arith}
-use Rattle.std.specs.List.{AllByRecursion as All}
+use Rattle.std.specs.List.{AllByRecursion}
 use Rattle.std.proofs.lemmas.List.{same_from_push}
 use Rattle.std.proofs.lemmas.Bool.{both_ways}
 use Rattle.uart_text.proofs.Lines.{ends_in_last}
@@ -20,7 +20,7 @@ same_tail : {x y : ℕ} {s t : List ℕ} → x ∷ s ≡ y ∷ t → s ≡ t
 same_tail e = cc
 
 -- the longest front of P, and the rest
-one_front : (P : ℕ → Type 0) (a b s t : List ℕ) → a ++ s ≡ b ++ t → All P a → All P b → Stops P s → Stops P t → (a ≡ b) × (s ≡ t)
+one_front : (P : ℕ → Type 0) (a b s t : List ℕ) → a ++ s ≡ b ++ t → AllByRecursion P a → AllByRecursion P b → Stops P s → Stops P t → (a ≡ b) × (s ≡ t)
 one_front P [] [] s t e h k m n = (refl, e)
 one_front P [] (y ∷ b) s t e h k m n = absurd (subst (Stops P) e m k.0)
 one_front P (x ∷ a) [] s t e h k m n = absurd (subst (Stops P) (sym e) n h.0)

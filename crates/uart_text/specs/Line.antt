@@ -1,6 +1,6 @@
 -- What of a line is read: no comment, and no line end.
 use Rattle.std.specs.Prelude.{◌≡◌, ℕ, ◌≢◌, ◌⊎◌, List, [], ◌∷◌, ◌++◌}
-use Rattle.std.specs.List.{AllByRecursion as All}
+use Rattle.std.specs.List.{AllByRecursion}
 
 -- s ends in the byte b
 abbrev pub EndsIn : ℕ → List ℕ → Type 0
@@ -24,7 +24,7 @@ WithoutEnd line r = (e : List ℕ) × (line ≡ r ++ e) × LineEnd r e
 
 -- there is no `#` (35) in s
 abbrev pub Uncommented : List ℕ → Type 0
-Uncommented s = All (λ b. b ≢ 35) s
+Uncommented s = AllByRecursion (λ b. b ≢ 35) s
 
 -- r is what stands before the first `#` of the line
 abbrev pub Commented : List ℕ → List ℕ → Type 0

@@ -1,6 +1,6 @@
 -- What a word is.
 use Rattle.std.specs.Prelude.{◌≡◌, ℕ, Bool, true, false, ◌||◌, ◌≢◌, List, [], ◌∷◌, ◌++◌, ◌==◌}
-use Rattle.std.specs.List.{AllByRecursion as All}
+use Rattle.std.specs.List.{AllByRecursion}
 
 -- whether a byte is a space (32) or a tab (9)
 abbrev pub blank : ℕ → Bool
@@ -8,7 +8,7 @@ blank b = b == 32 || b == 9
 
 -- every byte of s is blank, or, where k is false, none is
 abbrev pub AllOf : Bool → List ℕ → Type 0
-AllOf k s = All (λ b. blank b ≡ k) s
+AllOf k s = AllByRecursion (λ b. blank b ≡ k) s
 
 -- s is empty or begins with a blank
 abbrev pub EndsWord : List ℕ → Type 0
