@@ -4,7 +4,7 @@ use Rattle.uart_config.proofs.uart.Uart.follow_by_table.Goals as goal
 
 pub returns : goal.returns
 returns g c = record {
-  recovers = recovers g.Kind.ChipKind.properties.has_update c.args.self.now.budget c.args.error c.follow.result
+  recovers = recovers g.C.Kind.ChipKind.properties.has_update c.args.self.now.budget c.args.error c.follow.result
       (rest_of g.C.EventSource c.args.self.now) (rest_of g.C.EventSource c.follow.new.self) c.follow.ensures.ran;
   kept = c.follow.ensures.kept;
 }

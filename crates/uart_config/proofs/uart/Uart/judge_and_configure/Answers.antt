@@ -16,8 +16,8 @@ returns-in_err-divider g c =
 
 pub returns : goal.returns
 returns g c =
-    let x = g.Kind.ChipKind.properties in
-    let most = g.Kind.BaudGenerator.limits.p in
+    let x = g.C.Kind.ChipKind.properties in
+    let most = g.C.Kind.BaudGenerator.limits.p in
     let b = c.args.self.now.budget in
     let config = c.args.config.now in
     let s = rest_of g.C.EventSource c.args.self.now in

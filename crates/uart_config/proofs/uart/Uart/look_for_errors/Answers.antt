@@ -18,7 +18,7 @@ returns-in-Err g c =
     record {
       checks = error e f
           (subst (λ (es : Events). FirstError es (Err e)) (c.look-look.ensures.raw ∙ ap (λ (m : Meaning). m.raw) seen) c.in-Err.ensures) refl
-          (subst (λ (s : Rest). Recovers g.Kind.ChipKind.properties.has_update c.args.self.now.budget e f s t) (ap (λ (m : Meaning). m.rest) seen) done.recovers)
+          (subst (λ (s : Rest). Recovers g.C.Kind.ChipKind.properties.has_update c.args.self.now.budget e f s t) (ap (λ (m : Meaning). m.rest) seen) done.recovers)
           (done.events ∙ ap (λ (m : Meaning). with_rest t (cleared error_events m)) seen);
       budget = done.budget;
     }

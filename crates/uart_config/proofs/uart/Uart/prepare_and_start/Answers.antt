@@ -26,7 +26,7 @@ returns-in_err-reads g c =
     let f = c.in_err-reads.field-0.0 in
     record {
       inits = stopped c.in_ok-divider.divider f c.in_ok-divider.ensures (p.1 ∙ ap (λ (z : Fault). Err z) p.2)
-          (starts g.Kind.ChipKind.properties g.Kind.BaudGenerator.limits.p c.disable_interrupts.new.self.budget c.args.self.now.budget c.args.config.now c.hertz.result
+          (starts g.C.Kind.ChipKind.properties g.C.Kind.BaudGenerator.limits.p c.disable_interrupts.new.self.budget c.args.self.now.budget c.args.config.now c.hertz.result
           (hertz_of c.args.clocks.now c.args.config.now.clock_source) c.in_ok-divider.divider (rest_of g.C.EventSource c.disable_interrupts.new.self) m.rest (Err f) t t
           c.in_err-reads.ensures.ran c.disable_interrupts.ensures.budget c.hertz.ensures (ap (λ (z : Meaning). z.rest) c.disable_interrupts.ensures.events) refl)
           (search rules);
@@ -40,7 +40,7 @@ returns g c =
     let k = c.in_ok-reads.reads in
     record {
       inits = accepted c.in_ok-divider.divider k c.in_ok-divider.ensures refl
-          (starts g.Kind.ChipKind.properties g.Kind.BaudGenerator.limits.p c.disable_interrupts.new.self.budget c.args.self.now.budget c.args.config.now c.hertz.result
+          (starts g.C.Kind.ChipKind.properties g.C.Kind.BaudGenerator.limits.p c.disable_interrupts.new.self.budget c.args.self.now.budget c.args.config.now c.hertz.result
           (hertz_of c.args.clocks.now c.args.config.now.clock_source) c.in_ok-divider.divider (rest_of g.C.EventSource c.disable_interrupts.new.self) m.rest (Ok k) t (g.C.EventSource.rest c.clear.new.self)
           c.in_ok-reads.ensures.ran c.disable_interrupts.ensures.budget c.hertz.ensures (ap (λ (z : Meaning). z.rest) c.disable_interrupts.ensures.events)
           (sym (ap (λ (z : Meaning). z.rest) c.clear.ensures)))

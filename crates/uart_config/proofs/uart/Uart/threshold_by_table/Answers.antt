@@ -8,7 +8,7 @@ use Rattle.uart_config.proofs.uart.Uart.threshold_by_table.Goals as goal
 
 pub returns : goal.returns
 returns g c =
-    let has = g.Kind.ChipKind.properties.has_update in
+    let has = g.C.Kind.ChipKind.properties.has_update in
     let b = c.args.self.now.budget in
     let s = rest_of g.C.EventSource c.args.self.now in
     record {

@@ -8,11 +8,11 @@ use Rattle.uart_config.proofs.uart.Uart.write_framing.Goals as goal
 
 pub returns : goal.returns
 returns g c =
-    let has = g.Kind.ChipKind.properties.has_update in
+    let has = g.C.Kind.ChipKind.properties.has_update in
     let config = c.args.config.now in
     let bits : Writes = data_writes config.data_bits in
     let par : Writes = parity_writes config.parity in
-    let stop : Writes = stop_writes g.Kind.ChipKind.properties.stop_rule config.stop_bits in
+    let stop : Writes = stop_writes g.C.Kind.ChipKind.properties.stop_rule config.stop_bits in
     let sw : Writes = sw_writes config.sw_flow_ctrl in
     let cts : Writes = cts_writes config.hw_flow_ctrl.cts in
     let rts : Writes = rts_writes config.hw_flow_ctrl.rts in
