@@ -1,7 +1,7 @@
 -- What follows a line error, by the table of a reset.
 use Rattle.std.proofs.Common.{◌≡◌, ℕ, Bool, Ok, Err, Result, sym, refl, ap, subst, arith}
 use Rattle.uart_chip.specs.Device.{Rest}
-use Rattle.uart_config.specs.Errors.{Recovers, no_reset, reset, reset_failed, refusal_of}
+use Rattle.uart_config.specs.Errors.{Recovers, no_reset, reset, reset_failed}
 use Rattle.uart_config.specs.Faults.{refusing}
 use Rattle.uart_config.specs.Rows.{reset_rows}
 use Rattle.uart_config.specs.Runs.{Out, run, overflowing, recovered}

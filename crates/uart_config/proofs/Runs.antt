@@ -1,15 +1,14 @@
 -- Parts of a call that are carried out one after the other carry out their table.
-use Rattle.std.proofs.Common.{◌≡◌, ℕ, ◌+◌, ◌<◌, ◌≤◌, Bool, true, false, cond, ltb, List, [], ◌∷◌, ◌++◌, Some, None, Ok, Err, Option, Result, sym, refl, ap, ◌∙◌, subst, add-zero, arith, ltb-false, ltb-true}
+use Rattle.std.proofs.Common.{◌≡◌, ℕ, ◌+◌, Bool, true, false, cond, ltb, List, [], ◌∷◌, ◌++◌, Some, None, Ok, Err, Option, Result, sym, refl, ap, subst, ltb-false, ltb-true}
 use Rattle.uart_chip.specs.Device.{Rest}
 use Rattle.uart_chip.specs.Steps.{Writes, written_all}
 use Rattle.uart_config.specs.Overlays.{put_all}
 use Rattle.uart_chip.specs.declared.field.Field.{Field}
 use Rattle.uart_config.specs.Faults.{refusing, overdue}
-use Rattle.uart_config.specs.Runs.{Out, onward, chain, synced, falling, fallen, tested, run_row, run_from, run}
+use Rattle.uart_config.specs.Runs.{Out, onward, chain, synced, falling, tested, run_row, run_from, run}
 use Rattle.uart_config.specs.Tables.{Row, writes_of, Carried, to_the_end, to_a_refusal, to_a_time_out}
 use Rattle.uart_config.specs.Updates.{settled, standing}
 use Rattle.uart_config.specs.declared.fault.Fault.{Fault}
-use Rattle.uart_config.specs.declared.step.Step.{Step}
 use Rattle.uart_rate.specs.declared.refusal.Refusal.{Refusal}
 use Rattle.uart_config.proofs.Tables.{overlay, written_is, then, stops, row_refused, row_written, row_done, row_unneeded, row_late, nothing, ok_is_no_err}
 

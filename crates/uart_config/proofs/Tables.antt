@@ -1,15 +1,14 @@
 -- Tables of steps: one row, and one table after the other.
-use Rattle.std.proofs.Common.{◌≡◌, ℕ, zero, suc, ◌+◌, ◌-◌, ◌<◌, ◌≤◌, Bool, true, false, cond, ◌&&◌, ◌||◌, ltb, ◌⊎◌, List, [], ◌∷◌, ◌++◌, Some, None, Ok, Err, Option, Result, sym, refl, ap, ◌∙◌, subst, inl, inr, append_assoc, append-nil, add-zero, add_assoc, add-suc, zero-add, arith, ltb-false, ltb-true}
+use Rattle.std.proofs.Common.{◌≡◌, ℕ, zero, suc, ◌+◌, ◌-◌, ◌<◌, ◌≤◌, Bool, true, false, cond, ◌&&◌, ◌||◌, ltb, ◌⊎◌, List, [], ◌∷◌, ◌++◌, Some, None, Ok, Err, Result, sym, refl, ap, ◌∙◌, subst, inl, inr, append_assoc, append-nil, add-zero, add-suc, zero-add, arith, ltb-false, ltb-true}
 use Rattle.uart_chip.specs.Device.{Rest, written}
 use Rattle.uart_chip.specs.Fields.{line, put}
 use Rattle.uart_chip.specs.Steps.{Writes, written_all}
 use Rattle.uart_config.specs.Overlays.{put_all}
 use Rattle.uart_chip.specs.declared.field.Field.{Field}
 use Rattle.uart_config.specs.Faults.{refusing, overdue}
-use Rattle.uart_config.specs.Tables.{Row, AllPass, writes_of, updates_in, updates_of, polls, InTime, any_line, mark_by, mark_after, stands_by, stands_after, Reached, LeftStanding, Carried, to_the_end, to_a_refusal, to_a_time_out}
+use Rattle.uart_config.specs.Tables.{Row, AllPass, writes_of, updates_of, polls, InTime, any_line, mark_by, mark_after, stands_by, stands_after, Reached, LeftStanding, Carried, to_the_end, to_a_refusal, to_a_time_out}
 use Rattle.uart_config.specs.Updates.{settled, standing}
 use Rattle.uart_config.specs.declared.fault.Fault.{Fault}
-use Rattle.uart_config.specs.declared.step.Step.{Step}
 use Rattle.uart_rate.specs.declared.refusal.Refusal.{Refusal}
 
 mark_one : (l h x al : Bool) → (cond l (cond h true x) x) || (h && al) ≡ x || (h && (l || al))

@@ -1,9 +1,8 @@
 -- The tables of whole calls.
-use Rattle.std.proofs.Common.{◌≡◌, ℕ, Bool, List, [], ◌∷◌, ◌++◌, None, Ok, Err, Result, sym, ap, ◌∙◌, subst}
+use Rattle.std.proofs.Common.{◌≡◌, ℕ, Bool, List, [], ◌∷◌, ◌++◌, None, Ok, Result, sym, ap, ◌∙◌, subst}
 use Rattle.uart_chip.specs.Device.{Rest}
 use Rattle.uart_chip.specs.Steps.{written_all}
 use Rattle.uart_config.specs.Overlays.{put_all}
-use Rattle.uart_chip.specs.declared.field.Field.{Field}
 use Rattle.uart_chip.specs.declared.properties.Properties.{Properties}
 use Rattle.uart_config.specs.Applying.{apply_rows, init_rows}
 use Rattle.uart_config.specs.Rows.{divider_rows, framing_rows, receive_rows, reset_rows, transmit_rows, plain_row, idle_writes}

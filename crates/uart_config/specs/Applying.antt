@@ -1,7 +1,6 @@
-use Rattle.std.specs.Prelude.{◌≡◌, ℕ, Bool, true, false, List, [], ◌∷◌, ◌++◌, None, Ok, Err, Result}
+use Rattle.std.specs.Prelude.{◌≡◌, ℕ, Bool, List, [], ◌∷◌, ◌++◌, None, Ok, Err, Result}
 use Rattle.uart_chip.specs.Device.{Rest, Meaning, cleared, disabling, with_rest}
 use Rattle.uart_chip.specs.Events.{those, every, without}
-use Rattle.uart_chip.specs.Steps.{Writes}
 use Rattle.uart_config.specs.Overlays.{put_all}
 use Rattle.uart_chip.specs.declared.field.Field.{Field}
 use Rattle.uart_chip.specs.declared.events.Events.{Events}

@@ -7,18 +7,17 @@ use Rattle.uart_chip.specs.declared.field.Field.TheVariants as field
 use Rattle.uart_chip.specs.declared.properties.Properties.{Properties}
 use Rattle.uart_chip.specs.declared.properties.TimeoutRule.{TimeoutRule}
 use Rattle.uart_chip.specs.declared.properties.TimeoutRule.TheVariants.{Symbols, Bits}
-use Rattle.uart_config.specs.Tables.{Row, writes_of}
+use Rattle.uart_config.specs.Tables.{Row}
 use Rattle.uart_config.specs.declared.fifo.Fifo.{Fifo}
 use Rattle.uart_config.specs.declared.fifo.Fifo.TheVariants.{Rx, Tx}
 use Rattle.uart_config.specs.declared.step.Step.{Step}
-use Rattle.uart_config.specs.declared.step.Step.TheVariants.{Divider, Framing, Receive, RxReset, Transmit, AtCmd, ErrorReset}
+use Rattle.uart_config.specs.declared.step.Step.TheVariants.{Divider, Framing, Receive, Transmit, AtCmd}
 use Rattle.uart_config.specs.Tolerances.{too_fast}
 use Rattle.uart_rate.specs.declared.config.Config.{Config}
 use Rattle.uart_rate.specs.declared.config.CtsConfig.{CtsConfig}
 use Rattle.uart_rate.specs.declared.config.CtsConfig.TheVariants as cts
 use Rattle.uart_rate.specs.declared.config.DataBits.{DataBits}
 use Rattle.uart_rate.specs.declared.config.DataBits.TheVariants as data_bits
-use Rattle.uart_rate.specs.declared.config.HwFlowControl.{HwFlowControl}
 use Rattle.uart_rate.specs.declared.config.Parity.{Parity}
 use Rattle.uart_rate.specs.declared.config.Parity.TheVariants as parity
 use Rattle.uart_rate.specs.declared.config.RtsConfig.{RtsConfig}

@@ -1,5 +1,5 @@
 -- What the parts of a call do one after the other: for the proofs of inner functions. No public promise names these.
-use Rattle.std.specs.Prelude.{◌≡◌, ℕ, ◌+◌, Bool, true, false, cond, List, [], ◌∷◌, Some, None, Ok, Err, Option, Result, nat_lt}
+use Rattle.std.specs.Prelude.{ℕ, ◌+◌, Bool, cond, List, [], ◌∷◌, Some, None, Ok, Err, Option, Result, nat_lt}
 use Rattle.uart_chip.specs.Device.{Rest}
 use Rattle.uart_chip.specs.Steps.{Writes, written_all}
 use Rattle.uart_chip.specs.declared.properties.Properties.{Properties}

@@ -3,7 +3,6 @@ use Rattle.uart_chip.specs.Device.{Rest}
 use Rattle.uart_chip.specs.Fields.{line}
 use Rattle.uart_chip.specs.Steps.{Writes}
 use Rattle.uart_config.specs.Overlays.{put_all}
-use Rattle.uart_chip.specs.declared.field.Field.{Field}
 use Rattle.uart_config.specs.Faults.{refusing, overdue}
 use Rattle.uart_config.specs.declared.fault.Fault.{Fault}
 use Rattle.uart_config.specs.declared.step.Step.{Step}

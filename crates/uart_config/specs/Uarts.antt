@@ -1,4 +1,4 @@
-use Rattle.std.specs.Prelude.{◌≡◌, ℕ}
+use Rattle.std.specs.Prelude.{◌≡◌}
 use Rattle.uart_chip.specs.Device.{Rest}
 use Rattle.uart_chip.specs.Steps.{Writes, written_all}
 use Rattle.uart_chip.specs.declared.properties.Properties.{Properties}

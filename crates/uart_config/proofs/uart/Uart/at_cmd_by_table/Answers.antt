@@ -1,4 +1,3 @@
-use Rattle.std.proofs.Common.{[], ◌∷◌}
 use Rattle.uart_config.specs.Rows.{at_cmd_rows}
 use Rattle.uart_config.specs.Runs.{run}
 use Rattle.uart_config.specs.Uarts.{rest_of}

@@ -1,6 +1,6 @@
-use Rattle.std.proofs.Common.{◌≡◌, ℕ, Err, sym, refl, ap, ◌∙◌, subst, rules}
+use Rattle.std.proofs.Common.{ℕ, Err, refl, ap, ◌∙◌, subst, rules}
 use Rattle.std.proofs.lemmas.Result.{err_from_is_err_and}
-use Rattle.uart_config.specs.Applying.{apply_rows, Applies, unfit, fit}
+use Rattle.uart_config.specs.Applying.{apply_rows, unfit, fit}
 use Rattle.uart_config.specs.Runs.{applied}
 use Rattle.uart_config.specs.Tables.{Carried}
 use Rattle.uart_config.specs.Uarts.{rest_of}

@@ -1,8 +1,8 @@
-use Rattle.std.proofs.Common.{◌≡◌, Err, refl, ap, ◌∙◌, subst, rules}
+use Rattle.std.proofs.Common.{◌≡◌, Err, refl, ap, ◌∙◌, subst}
 use Rattle.uart_chip.specs.Device.{Meaning, Rest, looked, cleared, with_rest}
 use Rattle.uart_chip.specs.Meanings.{meaning}
 use Rattle.uart_chip.specs.declared.events.Events.{Events}
-use Rattle.uart_config.specs.Errors.{FirstError, Recovers, Checks, error, error_events}
+use Rattle.uart_config.specs.Errors.{FirstError, Recovers, error, error_events}
 use Rattle.uart_config.specs.Uarts.{rest_of}
 use Rattle.uart_config.proofs.uart.Uart.look_for_errors.Goals as goal
 

@@ -1,8 +1,8 @@
-use Rattle.std.proofs.Common.{◌≡◌, ℕ, Ok, Err, Result, sym, refl, ap, ◌∙◌, subst, rules}
+use Rattle.std.proofs.Common.{Ok, Err, sym, refl, ap, ◌∙◌, rules}
 use Rattle.std.proofs.lemmas.Result.{err_from_is_err_and}
 use Rattle.uart_chip.specs.Device.{Meaning, Rest}
 use Rattle.uart_chip.specs.Meanings.{meaning}
-use Rattle.uart_config.specs.Applying.{Inits, unfit, stopped, accepted}
+use Rattle.uart_config.specs.Applying.{unfit, stopped, accepted}
 use Rattle.uart_config.specs.Uarts.{rest_of}
 use Rattle.uart_config.specs.declared.fault.Fault.{Fault}
 use Rattle.uart_rate.specs.Clocks.{hertz_of}
