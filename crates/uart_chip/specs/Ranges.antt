@@ -1,4 +1,4 @@
--- Proofs that a law of `EventSet` asks of each kind: no event outside the kind is in a set of it.
+-- Proofs that the law `range` of `EventSet` asks of each kind: no event outside the kind is in a set of it.
 use Rattle.std.proofs.Common.{◌≡◌, ◌≢◌, false, refl}
 use Rattle.uart_chip.specs.Events.{holds}
 use Rattle.uart_chip.specs.Kinds.{rx_event, rx_members, tx_event, tx_members, uart_event, uart_members}

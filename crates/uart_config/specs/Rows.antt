@@ -59,8 +59,8 @@ parity_writes parity.Odd = (field.ParityEn, 1) ∷ (field.Parity, 1) ∷ []
 -- flow control by characters: off keeps the four numbers
 abbrev pub sw_writes : SwFlowControl → Writes
 sw_writes sw.Disabled = (field.SwFlowConEn, 0) ∷ (field.XonoffDel, 0) ∷ []
-sw_writes (sw.Enabled xon xoff xon-at xoff-at) =
-    (field.XonoffDel, 1) ∷ (field.SwFlowConEn, 1) ∷ (field.XonThreshold, xon-at) ∷ (field.XoffThreshold, xoff-at) ∷ (field.XonChar, xon) ∷ (field.XoffChar, xoff) ∷ []
+sw_writes (sw.Enabled xon xoff xon_at xoff_at) =
+    (field.XonoffDel, 1) ∷ (field.SwFlowConEn, 1) ∷ (field.XonThreshold, xon_at) ∷ (field.XoffThreshold, xoff_at) ∷ (field.XonChar, xon) ∷ (field.XoffChar, xoff) ∷ []
 
 abbrev pub cts_writes : CtsConfig → Writes
 cts_writes cts.Enabled = (field.TxFlowEn, 1) ∷ []

@@ -12,7 +12,7 @@ use Rattle.uart_config.specs.Updates.{settled, standing}
 use Rattle.uart_config.specs.declared.fault.Fault.{Fault}
 use Rattle.uart_config.specs.declared.fifo.Fifo.TheVariants.{Rx, Tx}
 use Rattle.uart_config.specs.declared.rx_error.RxError.{RxError}
-use Rattle.uart_config.specs.declared.rx_error.RxError.TheVariants as rx-error
+use Rattle.uart_config.specs.declared.rx_error.RxError.TheVariants as rx_error
 use Rattle.uart_config.specs.declared.step.Step.{Step}
 use Rattle.uart_config.specs.declared.step.Step.TheVariants.{RxReset, Transmit, ErrorReset}
 use Rattle.uart_config.specs.declared.uart.Uart.{Uart}
@@ -106,7 +106,7 @@ overflowing (Ok k) = Err (refusing FifoOverflowed k)
 overflowing (Err f) = Err f
 
 abbrev pub recovered : Bool → ℕ → RxError → Rest → Out
-recovered has b rx-error.FifoOverflowed s = record { answer = overflowing (run has b (reset_rows Rx ErrorReset) 0 s).answer; rest = (run has b (reset_rows Rx ErrorReset) 0 s).rest }
-recovered has b rx-error.GlitchOccurred s = record { answer = Err (refusing GlitchOccurred 0); rest = s }
-recovered has b rx-error.FrameFormatViolated s = record { answer = Err (refusing FrameFormatViolated 0); rest = s }
-recovered has b rx-error.ParityMismatch s = record { answer = Err (refusing ParityMismatch 0); rest = s }
+recovered has b rx_error.FifoOverflowed s = record { answer = overflowing (run has b (reset_rows Rx ErrorReset) 0 s).answer; rest = (run has b (reset_rows Rx ErrorReset) 0 s).rest }
+recovered has b rx_error.GlitchOccurred s = record { answer = Err (refusing GlitchOccurred 0); rest = s }
+recovered has b rx_error.FrameFormatViolated s = record { answer = Err (refusing FrameFormatViolated 0); rest = s }
+recovered has b rx_error.ParityMismatch s = record { answer = Err (refusing ParityMismatch 0); rest = s }
