@@ -1,16 +1,16 @@
 -- What the head gets is decided, too.
-use Rattle.std.proofs.Common.{◌≡◌, ℕ, ◌-◌, ◌*◌, Bool, IsOkAnd, IsErrAnd, Ok, Err, Result, sym, refl, ap, ◌∙◌, subst}
+use Rattle.std.proofs.Common.{◌≡◌, ℕ, ◌-◌, ◌*◌, Bool, IsOkAnd, IsErrAnd, Ok, Err, Result, sym, ap, ◌∙◌, subst}
 use Rattle.uart_rate.specs.declared.achieved.Achieved.{Achieved}
 use Rattle.uart_rate.specs.declared.config.BaudrateTolerance.{BaudrateTolerance}
 use Rattle.uart_rate.specs.declared.config.BaudrateTolerance.TheVariants.{Closest, Exact, ErrorPercent}
 use Rattle.uart_rate.specs.declared.divider.Divider.{Divider}
-use Rattle.uart_rate.specs.declared.limits.Limits.{Limits}
+use Rattle.uart_rate.specs.Limits.{Limits}
 use Rattle.uart_rate.specs.declared.refusal.Refusal.{Refusal}
 use Rattle.uart_rate.specs.Achieving.{Achieves, refused, not_achievable, achieved, TooFast, Runs}
 use Rattle.uart_rate.specs.Decided.{SameAnswer, SameDivider, SameHead}
 use Rattle.uart_rate.specs.Judging.{Judged}
 use Rattle.uart_rate.specs.Rates.{WholePart, sixteenths_of}
-use Rattle.uart_rate.proofs.Judgements.{judging}
+use Rattle.uart_rate.proofs.Judgements.{judging, same_refusal}
 use Rattle.uart_rate.proofs.Unique.{one_whole_part}
 
 same_sixteenths : (v w : Divider) → SameDivider v w → sixteenths_of v ≡ sixteenths_of w
@@ -40,9 +40,6 @@ same_head clk baud v w a b e x y =
           (subst (λ (n : ℕ). WholePart (1000000 * (16 * clk - baud * n * sixteenths_of w)) (baud * n * sixteenths_of w) b.excess) p y.head.excess));
     }
 
-same_refusal : {r s : Result Achieved Refusal} {e : Refusal} → r ≡ Err e → s ≡ Err e → SameAnswer SameHead r s
-same_refusal p q = rw (p, q) refl
-
 both_refused : (l : Limits) (has : Bool) (clk baud : ℕ) (t : BaudrateTolerance) (r s : Result Achieved Refusal) →
     IsErrAnd r (λ e. Judged l has clk baud t (Err e)) → IsErrAnd s (λ e. Judged l has clk baud t (Err e)) → SameAnswer SameHead r s
 both_refused l has clk baud t (Ok a) s x y = absurd x
@@ -66,7 +63,7 @@ achieving l has clk baud t r s (refused x) (refused y) = both_refused l has clk 
 achieving l has clk baud t r s (refused x) (not_achievable w j h e) = absurd (refused_clash l has clk baud t r w x j)
 achieving l has clk baud t r s (refused x) (achieved w j h k) = absurd (refused_clash l has clk baud t r w x j)
 achieving l has clk baud t r s (not_achievable v i h e) (refused y) = absurd (refused_clash l has clk baud t s v y i)
-achieving l has clk baud t r s (not_achievable v i h e) (not_achievable w j h' e') = same_refusal e e'
+achieving l has clk baud t r s (not_achievable v i h e) (not_achievable w j h' e') = same_refusal SameHead e e'
 achieving l has clk baud t r s (not_achievable v i h e) (achieved w j h' k) =
     absurd (h' (same_too_fast t clk baud v w (judging l has clk baud t (Ok v) (Ok w) i j) h))
 achieving l has clk baud t r s (achieved v i h k) (refused y) = absurd (refused_clash l has clk baud t s v y i)

@@ -1,9 +1,9 @@
 -- What a judgement says, and that it leaves no choice.
-use Rattle.std.proofs.Common.{◌≡◌, ℕ, Bool, true, false, IsOkAnd, Ok, Err, Result, refl, ap, inl, inr, arith, MatchResult}
+use Rattle.std.proofs.Common.{◌≡◌, ℕ, Bool, true, IsOkAnd, Ok, Err, Result, refl, ap, inl, inr, arith, MatchResult}
 use Rattle.uart_rate.specs.declared.config.BaudrateTolerance.{BaudrateTolerance}
 use Rattle.uart_rate.specs.declared.config.BaudrateTolerance.TheVariants.{Closest, Exact, ErrorPercent}
 use Rattle.uart_rate.specs.declared.divider.Divider.{Divider}
-use Rattle.uart_rate.specs.declared.limits.Limits.{Limits}
+use Rattle.uart_rate.specs.Limits.{Limits}
 use Rattle.uart_rate.specs.declared.refusal.Refusal.{Refusal}
 use Rattle.uart_rate.specs.declared.refusal.Refusal.TheVariants.{DividerOutOfRange}
 use Rattle.uart_rate.specs.Decided.{SameAnswer, SameDivider}
@@ -13,10 +13,10 @@ use Rattle.uart_rate.proofs.Unique.{one_prescaler, one_law}
 
 -- an accepted divider is one for a baud rate in range
 pub accepted_so : (l : Limits) (has : Bool) (clk baud : ℕ) (t : BaudrateTolerance) (v : Divider) → Judged l has clk baud t (Ok v) → IsBaudInRange baud × Divides l clk baud v
-accepted_so l has clk baud t v (percent_out_of_range a e) = let z : ◌≡◌ {A = ℕ} 0 1 = cc in absurd (omega arith)
-accepted_so l has clk baud t v (baudrate_not_supported a b e) = let z : ◌≡◌ {A = ℕ} 0 1 = cc in absurd (omega arith)
-accepted_so l has clk baud t v (clock_not_usable a b c e) = let z : ◌≡◌ {A = ℕ} 0 1 = cc in absurd (omega arith)
-accepted_so l has clk baud t v (divider_out_of_range a b c d e) = let z : ◌≡◌ {A = ℕ} 0 1 = cc in absurd (omega arith)
+accepted_so l has clk baud t v (percent_out_of_range a e) = cc
+accepted_so l has clk baud t v (baudrate_not_supported a b e) = cc
+accepted_so l has clk baud t v (clock_not_usable a b c e) = cc
+accepted_so l has clk baud t v (divider_out_of_range a b c d e) = cc
 accepted_so l has clk baud t v (accepted a b c d) = (b, d)
 
 -- where the other tests pass, the divider rule decides
@@ -36,7 +36,7 @@ baud_clash baud a (inl e) = omega arith
 baud_clash baud a (inr h) = omega arith
 
 clock_clash : (has : Bool) (clk : ℕ) → IsClockUsable has clk → IsClockUnusable has clk → ⊥
-clock_clash has clk u (source_missing e) = let f : has ≡ true = u.source in let z : ◌≡◌ {A = Bool} true false = cc in let y : ◌≡◌ {A = ℕ} 0 1 = cc in omega arith
+clock_clash has clk u (source_missing e) = let f : has ≡ true = u.source in cc
 clock_clash has clk u (stopped e) = omega (arith, u.runs)
 clock_clash has clk u (too_high h) = omega (arith, u.slow)
 
@@ -60,8 +60,8 @@ one_divider l clk baud v w a b =
       fraction = omega (arith, e.1, v.sixteenths, w.sixteenths);
     }
 
-same_refusal : {r s : Result Divider Refusal} {e : Refusal} → r ≡ Err e → s ≡ Err e → SameAnswer SameDivider r s
-same_refusal p q = rw (p, q) refl
+pub same_refusal : {X : Type 0} (alike : X → X → Type 0) {r s : Result X Refusal} {e : Refusal} → r ≡ Err e → s ≡ Err e → SameAnswer alike r s
+same_refusal alike p q = rw (p, q) refl
 
 both_accepted : (l : Limits) (clk baud : ℕ) (r s : Result Divider Refusal) → IsOkAnd r (Divides l clk baud) → IsOkAnd s (Divides l clk baud) → SameAnswer SameDivider r s
 both_accepted l clk baud (Ok v) (Ok w) a b = one_divider l clk baud v w a b
@@ -75,25 +75,25 @@ divider_clash l clk baud (Err e) a b = a
 
 pub judging : (l : Limits) (has : Bool) (clk baud : ℕ) (t : BaudrateTolerance) (r s : Result Divider Refusal) →
     Judged l has clk baud t r → Judged l has clk baud t s → SameAnswer SameDivider r s
-judging l has clk baud t r s (percent_out_of_range a e) (percent_out_of_range a' e') = same_refusal e e'
+judging l has clk baud t r s (percent_out_of_range a e) (percent_out_of_range a' e') = same_refusal SameDivider e e'
 judging l has clk baud t r s (percent_out_of_range a e) (baudrate_not_supported a' b' e') = absurd (percent_clash t a' a)
 judging l has clk baud t r s (percent_out_of_range a e) (clock_not_usable a' b' c' e') = absurd (percent_clash t a' a)
 judging l has clk baud t r s (percent_out_of_range a e) (divider_out_of_range a' b' c' d' e') = absurd (percent_clash t a' a)
 judging l has clk baud t r s (percent_out_of_range a e) (accepted a' b' c' d') = absurd (percent_clash t a' a)
 judging l has clk baud t r s (baudrate_not_supported a b e) (percent_out_of_range a' e') = absurd (percent_clash t a a')
-judging l has clk baud t r s (baudrate_not_supported a b e) (baudrate_not_supported a' b' e') = same_refusal e e'
+judging l has clk baud t r s (baudrate_not_supported a b e) (baudrate_not_supported a' b' e') = same_refusal SameDivider e e'
 judging l has clk baud t r s (baudrate_not_supported a b e) (clock_not_usable a' b' c' e') = absurd (baud_clash baud b' b)
 judging l has clk baud t r s (baudrate_not_supported a b e) (divider_out_of_range a' b' c' d' e') = absurd (baud_clash baud b' b)
 judging l has clk baud t r s (baudrate_not_supported a b e) (accepted a' b' c' d') = absurd (baud_clash baud b' b)
 judging l has clk baud t r s (clock_not_usable a b c e) (percent_out_of_range a' e') = absurd (percent_clash t a a')
 judging l has clk baud t r s (clock_not_usable a b c e) (baudrate_not_supported a' b' e') = absurd (baud_clash baud b b')
-judging l has clk baud t r s (clock_not_usable a b c e) (clock_not_usable a' b' c' e') = same_refusal e e'
+judging l has clk baud t r s (clock_not_usable a b c e) (clock_not_usable a' b' c' e') = same_refusal SameDivider e e'
 judging l has clk baud t r s (clock_not_usable a b c e) (divider_out_of_range a' b' c' d' e') = absurd (clock_clash has clk c' c)
 judging l has clk baud t r s (clock_not_usable a b c e) (accepted a' b' c' d') = absurd (clock_clash has clk c' c)
 judging l has clk baud t r s (divider_out_of_range a b c d e) (percent_out_of_range a' e') = absurd (percent_clash t a a')
 judging l has clk baud t r s (divider_out_of_range a b c d e) (baudrate_not_supported a' b' e') = absurd (baud_clash baud b b')
 judging l has clk baud t r s (divider_out_of_range a b c d e) (clock_not_usable a' b' c' e') = absurd (clock_clash has clk c c')
-judging l has clk baud t r s (divider_out_of_range a b c d e) (divider_out_of_range a' b' c' d' e') = same_refusal e e'
+judging l has clk baud t r s (divider_out_of_range a b c d e) (divider_out_of_range a' b' c' d' e') = same_refusal SameDivider e e'
 judging l has clk baud t r s (divider_out_of_range a b c d e) (accepted a' b' c' d') = absurd (divider_clash l clk baud s d' d)
 judging l has clk baud t r s (accepted a b c d) (percent_out_of_range a' e') = absurd (percent_clash t a a')
 judging l has clk baud t r s (accepted a b c d) (baudrate_not_supported a' b' e') = absurd (baud_clash baud b b')

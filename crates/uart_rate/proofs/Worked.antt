@@ -1,10 +1,10 @@
 -- The worked examples: the rate law holds of the reckoned numbers, and the rest is computed.
-use Rattle.std.proofs.Common.{◌≡◌, ℕ, ◌-◌, ◌*◌, ◌<◌, ◌≤◌, true, Ok, Err, refl, arith, lit<, lit≤}
+use Rattle.std.proofs.Common.{◌≡◌, ℕ, ◌-◌, ◌*◌, ◌<◌, ◌≤◌, true, Ok, Err, refl, arith, lit<, lit≤, rules}
 use Rattle.uart_rate.specs.declared.achieved.Achieved.{Achieved}
 use Rattle.uart_rate.specs.declared.config.BaudrateTolerance.{BaudrateTolerance}
 use Rattle.uart_rate.specs.declared.config.BaudrateTolerance.TheVariants.{Closest, Exact, ErrorPercent}
 use Rattle.uart_rate.specs.declared.divider.Divider.{Divider}
-use Rattle.uart_rate.specs.declared.limits.Limits.{Limits}
+use Rattle.uart_rate.specs.Limits.{Limits}
 use Rattle.uart_rate.specs.declared.refusal.Refusal.TheVariants.{DividerOutOfRange}
 use Rattle.uart_rate.specs.Achieving.{Achieves, refused, not_achievable, achieved, TooFast}
 use Rattle.uart_rate.specs.Examples.{WorkedExamples}
@@ -86,18 +86,18 @@ by_1_1 = record { prescaler = 1; integer = 0; fraction = 1; prescales = (lit≤ 
 
 pub worked_examples_lem : WorkedExamples
 worked_examples_lem = record {
-  c3_115200 = (head 80000000 by_1_11111 115201 10, runs prescaled_limits 80000000 115200 Closest by_1_11111 115201 10 (record { percent = tt; q = lit≤ tt; runs = lit≤ tt; slow = lit< tt; baud_least = lit≤ tt; baud_most = lit≤ tt; prescaler = refl; divisor = refl; prescaler_fits = lit≤ tt; integer_fits = lit≤ tt }) (λ x. x) (record { reached = lit≤ tt; not_more = lit< tt }) (record { reached = lit≤ tt; not_more = lit< tt }), ((refl, refl), refl));
-  c3_9600 = (head 80000000 by_3_44444 9600 10, runs prescaled_limits 80000000 9600 Closest by_3_44444 9600 10 (record { percent = tt; q = lit≤ tt; runs = lit≤ tt; slow = lit< tt; baud_least = lit≤ tt; baud_most = lit≤ tt; prescaler = refl; divisor = refl; prescaler_fits = lit≤ tt; integer_fits = lit≤ tt }) (λ x. x) (record { reached = lit≤ tt; not_more = lit< tt }) (record { reached = lit≤ tt; not_more = lit< tt }), ((refl, refl), refl));
-  c3_last_undivided = (head 39302400 by_1_65504 9600 0, runs prescaled_limits 39302400 9600 Closest by_1_65504 9600 0 (record { percent = tt; q = lit≤ tt; runs = lit≤ tt; slow = lit< tt; baud_least = lit≤ tt; baud_most = lit≤ tt; prescaler = refl; divisor = refl; prescaler_fits = lit≤ tt; integer_fits = lit≤ tt }) (λ x. x) (record { reached = lit≤ tt; not_more = lit< tt }) (record { reached = lit≤ tt; not_more = lit< tt }), (refl, refl));
-  c3_first_divided = (head 39302401 by_2_32752 9600 0, runs prescaled_limits 39302401 9600 Closest by_2_32752 9600 0 (record { percent = tt; q = lit≤ tt; runs = lit≤ tt; slow = lit< tt; baud_least = lit≤ tt; baud_most = lit≤ tt; prescaler = refl; divisor = refl; prescaler_fits = lit≤ tt; integer_fits = lit≤ tt }) (λ x. x) (record { reached = lit≤ tt; not_more = lit< tt }) (record { reached = lit≤ tt; not_more = lit< tt }), (refl, refl));
-  c3_slowest = (head 80000000 by_254_65446 77 5, runs prescaled_limits 80000000 77 Closest by_254_65446 77 5 (record { percent = tt; q = lit≤ tt; runs = lit≤ tt; slow = lit< tt; baud_least = lit≤ tt; baud_most = lit≤ tt; prescaler = refl; divisor = refl; prescaler_fits = lit≤ tt; integer_fits = lit≤ tt }) (λ x. x) (record { reached = lit≤ tt; not_more = lit< tt }) (record { reached = lit≤ tt; not_more = lit< tt }), (refl, refl));
+  c3_115200 = (head 80000000 by_1_11111 115201 10, runs prescaled_limits 80000000 115200 Closest by_1_11111 115201 10 (search rules) (λ x. x) (search rules) (search rules), ((refl, refl), refl));
+  c3_9600 = (head 80000000 by_3_44444 9600 10, runs prescaled_limits 80000000 9600 Closest by_3_44444 9600 10 (search rules) (λ x. x) (search rules) (search rules), ((refl, refl), refl));
+  c3_last_undivided = (head 39302400 by_1_65504 9600 0, runs prescaled_limits 39302400 9600 Closest by_1_65504 9600 0 (search rules) (λ x. x) (search rules) (search rules), (refl, refl));
+  c3_first_divided = (head 39302401 by_2_32752 9600 0, runs prescaled_limits 39302401 9600 Closest by_2_32752 9600 0 (search rules) (λ x. x) (search rules) (search rules), (refl, refl));
+  c3_slowest = (head 80000000 by_254_65446 77 5, runs prescaled_limits 80000000 77 Closest by_254_65446 77 5 (search rules) (λ x. x) (search rules) (search rules), (refl, refl));
   c3_too_slow = refuses prescaled_limits 80000000 76 (lit≤ tt) (lit< tt) (lit≤ tt) (lit≤ tt) (prescaler_too_large 258 (ceiling 4094 80000000 76 (lit≤ tt) (lit≤ tt) (lit≤ tt)) (lit< tt));
-  esp32_slowest = (head 80000000 by_1_16623376 77 0, runs esp32_limits 80000000 77 Closest by_1_16623376 77 0 (record { percent = tt; q = lit≤ tt; runs = lit≤ tt; slow = lit< tt; baud_least = lit≤ tt; baud_most = lit≤ tt; prescaler = refl; divisor = refl; prescaler_fits = lit≤ tt; integer_fits = lit≤ tt }) (λ x. x) (record { reached = lit≤ tt; not_more = lit< tt }) (record { reached = lit≤ tt; not_more = lit< tt }), (refl, refl));
+  esp32_slowest = (head 80000000 by_1_16623376 77 0, runs esp32_limits 80000000 77 Closest by_1_16623376 77 0 (search rules) (λ x. x) (search rules) (search rules), (refl, refl));
   esp32_too_slow = refuses esp32_limits 80000000 76 (lit≤ tt) (lit< tt) (lit≤ tt) (lit≤ tt) (integer_too_large 1 16842105 (law 268435456 80000000 76 (lit≤ tt) (lit≤ tt) (lit≤ tt)) (lit≤ tt) (lit< tt));
-  esp32_fast = (head 1000000 by_1_3 5333333 66666, runs esp32_limits 1000000 5000000 Closest by_1_3 5333333 66666 (record { percent = tt; q = lit≤ tt; runs = lit≤ tt; slow = lit< tt; baud_least = lit≤ tt; baud_most = lit≤ tt; prescaler = refl; divisor = refl; prescaler_fits = lit≤ tt; integer_fits = lit≤ tt }) (λ x. x) (record { reached = lit≤ tt; not_more = lit< tt }) (record { reached = lit≤ tt; not_more = lit< tt }), ((refl, refl), refl));
-  esp32_exact = not_achievable by_1_3 (judged esp32_limits 1000000 5000000 Exact by_1_3 (record { percent = tt; q = lit≤ tt; runs = lit≤ tt; slow = lit< tt; baud_least = lit≤ tt; baud_most = lit≤ tt; prescaler = refl; divisor = refl; prescaler_fits = lit≤ tt; integer_fits = lit≤ tt })) (lit< tt) refl;
-  esp32_six_percent = not_achievable by_1_3 (judged esp32_limits 1000000 5000000 (ErrorPercent 6) by_1_3 (record { percent = (lit≤ tt, lit≤ tt); q = lit≤ tt; runs = lit≤ tt; slow = lit< tt; baud_least = lit≤ tt; baud_most = lit≤ tt; prescaler = refl; divisor = refl; prescaler_fits = lit≤ tt; integer_fits = lit≤ tt })) (lit< tt) refl;
-  esp32_seven_percent = (head 1000000 by_1_3 5333333 66666, runs esp32_limits 1000000 5000000 (ErrorPercent 7) by_1_3 5333333 66666 (record { percent = (lit≤ tt, lit≤ tt); q = lit≤ tt; runs = lit≤ tt; slow = lit< tt; baud_least = lit≤ tt; baud_most = lit≤ tt; prescaler = refl; divisor = refl; prescaler_fits = lit≤ tt; integer_fits = lit≤ tt }) (λ x. omega arith) (record { reached = lit≤ tt; not_more = lit< tt }) (record { reached = lit≤ tt; not_more = lit< tt }), ((refl, refl), refl));
-  esp32_one_sixteenth = (head 312500 by_1_1 5000000 0, runs esp32_limits 312500 5000000 Closest by_1_1 5000000 0 (record { percent = tt; q = lit≤ tt; runs = lit≤ tt; slow = lit< tt; baud_least = lit≤ tt; baud_most = lit≤ tt; prescaler = refl; divisor = refl; prescaler_fits = lit≤ tt; integer_fits = lit≤ tt }) (λ x. x) (record { reached = lit≤ tt; not_more = lit< tt }) (record { reached = lit≤ tt; not_more = lit< tt }), (refl, refl));
+  esp32_fast = (head 1000000 by_1_3 5333333 66666, runs esp32_limits 1000000 5000000 Closest by_1_3 5333333 66666 (search rules) (λ x. x) (search rules) (search rules), ((refl, refl), refl));
+  esp32_exact = not_achievable by_1_3 (judged esp32_limits 1000000 5000000 Exact by_1_3 (search rules)) (lit< tt) refl;
+  esp32_six_percent = not_achievable by_1_3 (judged esp32_limits 1000000 5000000 (ErrorPercent 6) by_1_3 (search rules)) (lit< tt) refl;
+  esp32_seven_percent = (head 1000000 by_1_3 5333333 66666, runs esp32_limits 1000000 5000000 (ErrorPercent 7) by_1_3 5333333 66666 (search rules) (λ x. omega arith) (search rules) (search rules), ((refl, refl), refl));
+  esp32_one_sixteenth = (head 312500 by_1_1 5000000 0, runs esp32_limits 312500 5000000 Closest by_1_1 5000000 0 (search rules) (λ x. x) (search rules) (search rules), (refl, refl));
   esp32_no_divider = refuses esp32_limits 312499 5000000 (lit≤ tt) (lit< tt) (lit≤ tt) (lit≤ tt) (divider_zero 1 (law 268435456 312499 5000000 (lit≤ tt) (lit≤ tt) (lit≤ tt)) (lit≤ tt));
 }

@@ -6,7 +6,7 @@ use Rattle.uart_rate.specs.declared.clocks.Clocks.{Clocks}
 use Rattle.uart_rate.specs.declared.config.ClockSource.{ClockSource}
 use Rattle.uart_rate.specs.declared.config.Config.{Config}
 use Rattle.uart_rate.specs.declared.divider.Divider.{Divider}
-use Rattle.uart_rate.specs.declared.limits.Limits.{Limits}
+use Rattle.uart_rate.specs.Limits.{Limits}
 use Rattle.uart_rate.specs.declared.refusal.Refusal.{Refusal}
 use Rattle.uart_rate.specs.declared.refusal.Refusal.TheVariants.{BaudrateNotAchievable}
 use Rattle.uart_rate.specs.Clocks.{hertz_of}

@@ -8,3 +8,4 @@ pub mod Judging
 pub mod Limits
 pub mod Rates
 pub mod Refusals
+pub mod Stated

@@ -1,5 +1,10 @@
-use Rattle.std.specs.Prelude.{◌≤◌}
-use Rattle.uart_rate.specs.declared.limits.Limits.{Limits}
+use Rattle.std.specs.Prelude.{ℕ, ◌≤◌}
+
+-- the three numbers of the divider rule: the largest clk / (p × baud), the largest prescaler p (1 where the chip has none), and the largest integer part of the divider
+pub record Limits : Type 0 where
+  pub q : ℕ
+  pub p : ℕ
+  pub i : ℕ
 
 -- the ranges of Q, P and I on every chip
 pub record InRange (l : Limits) : Type 0 where

@@ -1,7 +1,7 @@
 // What the head gets from an accepted configuration.
 use super::divider::Divider;
 
-#[derive(Clone, Copy)]
+#[derive(Clone, Copy, Debug, PartialEq, Eq, Hash)]
 pub struct Achieved {
     // the clock that is divided, in hertz
     pub clk: u32,

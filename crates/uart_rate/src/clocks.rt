@@ -4,7 +4,7 @@ ghost use Rattle.uart_rate.specs.Clocks.{hertz_of};
 
 use super::config::ClockSource;
 
-#[derive(Clone, Copy)]
+#[derive(Clone, Copy, Debug, PartialEq, Eq, Hash)]
 pub struct Clocks {
     pub apb_clock: u32,
     pub rc_fast_clock: u32,

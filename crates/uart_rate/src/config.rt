@@ -3,7 +3,7 @@ ghost use Rattle.std.specs.Prelude.{◌≡◌};
 ghost use Rattle.uart_rate.specs.Defaults.{DefaultConfig};
 
 // Where the baud rate generator takes its clock from.
-#[derive(Clone, Copy)]
+#[derive(Clone, Copy, Debug, PartialEq, Eq, Hash)]
 pub enum ClockSource {
     Apb,
     RcFast,
@@ -12,7 +12,7 @@ pub enum ClockSource {
 }
 
 // How far above the baud rate asked for the head's rate may be.
-#[derive(Clone, Copy)]
+#[derive(Clone, Copy, Debug, PartialEq, Eq, Hash)]
 pub enum BaudrateTolerance {
     // any distance
     Closest,
@@ -22,29 +22,30 @@ pub enum BaudrateTolerance {
     ErrorPercent(u8),
 }
 
-#[derive(Clone, Copy)]
+#[derive(Clone, Copy, Debug, PartialEq, Eq, Hash)]
 pub enum DataBits {
-    _5,
-    _6,
-    _7,
-    _8,
+    _5 = 0,
+    _6 = 1,
+    _7 = 2,
+    _8 = 3,
 }
 
-#[derive(Clone, Copy)]
+// The next five are esp-hal's own types, which the driver's users name: a rule of the project keeps them, and no `Option` or `bool` stands for them.
+#[derive(Clone, Copy, Debug, PartialEq, Eq, Hash)]
 pub enum Parity {
     None,
     Even,
     Odd,
 }
 
-#[derive(Clone, Copy)]
+#[derive(Clone, Copy, Debug, PartialEq, Eq, Hash)]
 pub enum StopBits {
-    _1,
-    _1p5,
-    _2,
+    _1 = 1,
+    _1p5 = 2,
+    _2 = 3,
 }
 
-#[derive(Clone, Copy)]
+#[derive(Clone, Copy, Debug, PartialEq, Eq, Hash)]
 pub enum SwFlowControl {
     Disabled,
     Enabled {
@@ -55,37 +56,37 @@ pub enum SwFlowControl {
     },
 }
 
-#[derive(Clone, Copy)]
+#[derive(Clone, Copy, Debug, PartialEq, Eq, Hash)]
 pub enum CtsConfig {
     Enabled,
     Disabled,
 }
 
-#[derive(Clone, Copy)]
+#[derive(Clone, Copy, Debug, PartialEq, Eq, Hash)]
 pub enum RtsConfig {
     // the receive FIFO's fill at which the sender is stopped
     Enabled(u8),
     Disabled,
 }
 
-#[derive(Clone, Copy)]
+#[derive(Clone, Copy, Debug, PartialEq, Eq, Hash)]
 pub struct HwFlowControl {
     pub cts: CtsConfig,
     pub rts: RtsConfig,
 }
 
-#[derive(Clone, Copy)]
+#[derive(Clone, Copy, Debug, PartialEq, Eq, Hash)]
 pub struct RxConfig {
     pub fifo_full_threshold: u16,
     pub timeout: Option<u8>,
 }
 
-#[derive(Clone, Copy)]
+#[derive(Clone, Copy, Debug, PartialEq, Eq, Hash)]
 pub struct TxConfig {
     pub fifo_empty_threshold: u16,
 }
 
-#[derive(Clone, Copy)]
+#[derive(Clone, Copy, Debug, PartialEq, Eq, Hash)]
 pub struct Config {
     pub baudrate: u32,
     pub baudrate_tolerance: BaudrateTolerance,
@@ -100,7 +101,7 @@ pub struct Config {
 }
 
 impl Config {
-    // The settings of a caller who names only the clock source.
+    // The settings of a caller who names only the clock source. A `From` would be no plainer: all but the source is a choice, and no conversion.
     pub fn from_source(clock_source: ClockSource) -> Config
         ensures { DefaultConfig clock_source result }
     {

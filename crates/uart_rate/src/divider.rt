@@ -2,7 +2,7 @@
 ghost use Rattle.std.specs.Prelude.{◌+◌, ◌*◌, ◌<◌, ◌≤◌};
 
 // The clock is divided by `prescaler`, and then by `integer` and `fraction` sixteenths. Every value lies within what a chip may state, and none divides by 0.
-#[derive(Clone, Copy, PartialEq, Eq, Debug)]
+#[derive(Clone, Copy, Debug, PartialEq, Eq, Hash)]
 pub struct Divider {
     pub prescaler: u16,
     pub integer: u32,

@@ -5,9 +5,8 @@ ghost use Rattle.std.proofs.Common.{rules};
 
 use super::config::ClockSource;
 use super::generator::BaudGenerator;
-use super::limits::Limits;
 
-#[derive(Clone, Copy)]
+#[derive(Clone, Copy, Debug, PartialEq, Eq, Hash)]
 pub struct Esp32;
 
 impl BaudGenerator for Esp32 {
@@ -17,32 +16,23 @@ impl BaudGenerator for Esp32 {
 
     const I: u32 = 1_048_575;
 
-    ghost limits = { esp32_limits };
+    const DEFAULT_SOURCE: ClockSource = ClockSource::Apb;
+
+    ghost Q = { esp32_limits.q };
+
+    ghost P = { esp32_limits.p };
+
+    ghost I = { esp32_limits.i };
+
+    ghost DEFAULT_SOURCE = { esp32_source };
 
     ghost has = { esp32_has };
-
-    ghost default = { esp32_source };
 
     ghost ranges = { Prim.search rules };
 
     ghost present = { Prim.search rules };
 
-    fn limits() -> Limits {
-        Limits {
-            q: Self::Q,
-            p: Self::P,
-            i: Self::I,
-        }
-    }
-
     fn has_source(source: ClockSource) -> bool {
-        match source {
-            ClockSource::RefTick | ClockSource::Apb => true,
-            ClockSource::RcFast | ClockSource::Xtal => false,
-        }
-    }
-
-    fn default_source() -> ClockSource {
-        ClockSource::Apb
+        matches!(source, ClockSource::RefTick | ClockSource::Apb)
     }
 }

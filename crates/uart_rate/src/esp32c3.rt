@@ -5,10 +5,9 @@ ghost use Rattle.std.proofs.Common.{rules};
 
 use super::config::ClockSource;
 use super::generator::BaudGenerator;
-use super::limits::Limits;
 use super::prescaled::has_prescaled_source;
 
-#[derive(Clone, Copy)]
+#[derive(Clone, Copy, Debug, PartialEq, Eq, Hash)]
 pub struct Esp32c3;
 
 impl BaudGenerator for Esp32c3 {
@@ -18,29 +17,23 @@ impl BaudGenerator for Esp32c3 {
 
     const I: u32 = 4_095;
 
-    ghost limits = { prescaled_limits };
+    const DEFAULT_SOURCE: ClockSource = ClockSource::Apb;
+
+    ghost Q = { prescaled_limits.q };
+
+    ghost P = { prescaled_limits.p };
+
+    ghost I = { prescaled_limits.i };
+
+    ghost DEFAULT_SOURCE = { esp32c3_source };
 
     ghost has = { prescaled_has };
-
-    ghost default = { esp32c3_source };
 
     ghost ranges = { Prim.search rules };
 
     ghost present = { Prim.search rules };
 
-    fn limits() -> Limits {
-        Limits {
-            q: Self::Q,
-            p: Self::P,
-            i: Self::I,
-        }
-    }
-
     fn has_source(source: ClockSource) -> bool {
         has_prescaled_source(source)
-    }
-
-    fn default_source() -> ClockSource {
-        ClockSource::Apb
     }
 }

@@ -1,14 +1,13 @@
-// The ESP32-C6: as the ESP32-C3, but for its default clock source.
+// The ESP32-C6: as the ESP32-C3, but for its default clock source. Each chip states its own constants, as a rule of the project has it, so the two are not one generic type.
 ghost use Rattle.std.specs.Prelude.{◌≡◌};
 ghost use Rattle.uart_rate.specs.Generators.{prescaled_limits, prescaled_has, esp32c6_source};
 ghost use Rattle.std.proofs.Common.{rules};
 
 use super::config::ClockSource;
 use super::generator::BaudGenerator;
-use super::limits::Limits;
 use super::prescaled::has_prescaled_source;
 
-#[derive(Clone, Copy)]
+#[derive(Clone, Copy, Debug, PartialEq, Eq, Hash)]
 pub struct Esp32c6;
 
 impl BaudGenerator for Esp32c6 {
@@ -18,29 +17,23 @@ impl BaudGenerator for Esp32c6 {
 
     const I: u32 = 4_095;
 
-    ghost limits = { prescaled_limits };
+    const DEFAULT_SOURCE: ClockSource = ClockSource::Xtal;
+
+    ghost Q = { prescaled_limits.q };
+
+    ghost P = { prescaled_limits.p };
+
+    ghost I = { prescaled_limits.i };
+
+    ghost DEFAULT_SOURCE = { esp32c6_source };
 
     ghost has = { prescaled_has };
-
-    ghost default = { esp32c6_source };
 
     ghost ranges = { Prim.search rules };
 
     ghost present = { Prim.search rules };
 
-    fn limits() -> Limits {
-        Limits {
-            q: Self::Q,
-            p: Self::P,
-            i: Self::I,
-        }
-    }
-
     fn has_source(source: ClockSource) -> bool {
         has_prescaled_source(source)
-    }
-
-    fn default_source() -> ClockSource {
-        ClockSource::Xtal
     }
 }

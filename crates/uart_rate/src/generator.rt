@@ -1,39 +1,40 @@
 // A baud rate generator, by what its chip states about it.
-ghost use Rattle.std.specs.Prelude.{◌≡◌, Bool, true};
+ghost use Rattle.std.specs.Prelude.{◌≡◌, ℕ, Bool, true};
 ghost use Rattle.uart_rate.specs.Limits.{InRange};
 ghost use Rattle.uart_rate.specs.declared.config.ClockSource.{ClockSource};
-ghost use Rattle.uart_rate.specs.declared.limits.Limits.{Limits};
 
 use super::config::ClockSource;
-use super::limits::Limits;
 
 pub trait BaudGenerator {
+    // the largest clk / (p · baud); the prescaler p is raised until it holds
     const Q: u32;
 
+    // the largest prescaler; 1 where the chip has none
     const P: u32;
 
+    // the largest integer part of the divider
     const I: u32;
 
-    // Q, P and I, for clauses, which cannot name a constant
-    ghost limits: { Limits };
+    // the clock source where a caller names none
+    const DEFAULT_SOURCE: ClockSource;
+
+    // the constants again, for clauses
+    ghost Q: { ℕ };
+
+    ghost P: { ℕ };
+
+    ghost I: { ℕ };
+
+    ghost DEFAULT_SOURCE: { ClockSource };
 
     // which clock sources the chip has
     ghost has: { ClockSource → Bool };
 
-    // the clock source where a caller names none
-    ghost default: { ClockSource };
-
-    fn limits() -> Limits
-        ensures { result ≡ limits };
-
     fn has_source(source: ClockSource) -> bool
         ensures { result ≡ has source };
 
-    fn default_source() -> ClockSource
-        ensures { result ≡ default };
-
-    ghost ranges: { InRange limits };
+    ghost ranges: { InRange (record { q = Q; p = P; i = I }) };
 
     // the chip has its default source
-    ghost present: { has default ≡ true };
+    ghost present: { has DEFAULT_SOURCE ≡ true };
 }

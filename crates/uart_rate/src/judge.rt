@@ -2,14 +2,15 @@
 ghost use Rattle.std.specs.Prelude.{◌≡◌, ℕ, ◌+◌, ◌-◌, ◌*◌, ◌/◌, ◌%◌, ◌^◌, ◌<◌, ◌≤◌, true, false, MatchResult};
 ghost use Rattle.uart_rate.specs.Clocks.{hertz_of};
 ghost use Rattle.uart_rate.specs.Judging.{IsPercentInRange, IsPercentOutOfRange, IsBaudInRange, IsBaudOutOfRange, IsClockUsable, IsClockUnusable, Divides, IsOutOfBounds, Judges};
+ghost use Rattle.uart_rate.specs.Stated.{limits};
 ghost use Rattle.uart_rate.specs.declared.refusal.Refusal.TheVariants.{PercentOutOfRange, BaudrateNotSupported, ClockNotUsable, DividerOutOfRange};
 
 use super::clocks::Clocks;
 use super::config::{BaudrateTolerance, ClockSource, Config};
 use super::divider::Divider;
 use super::generator::BaudGenerator;
-use super::rate::{divisor, least_prescaler};
 use super::refusal::Refusal;
+use super::request::Request;
 
 // A percent of 0 or above 100 is refused.
 pub fn judge_percent(tolerance: BaudrateTolerance) -> Result<(), Refusal>
@@ -36,34 +37,26 @@ pub fn judge_clock<G: BaudGenerator>(source: ClockSource, clocks: &Clocks) -> Re
     ensures { MatchResult result (λ _. IsClockUsable (G.BaudGenerator.has source) (hertz_of clocks.now source)) (λ e. (e ≡ ClockNotUsable) × IsClockUnusable (G.BaudGenerator.has source) (hertz_of clocks.now source)) }
 {
     let clk = clocks.hertz(source);
-    if !G::has_source(source) {
-        return Err(Refusal::ClockNotUsable);
-    }
-    if clk == 0 {
-        return Err(Refusal::ClockNotUsable);
-    }
-    if clk >= 268_435_456 {
+    if !G::has_source(source) || clk == 0 || clk >= 268_435_456 {
         return Err(Refusal::ClockNotUsable);
     }
     Ok(())
 }
 
-// The divider for a clock and a baud rate that are not 0: the least prescaler, and under it the largest divider that is not too slow, if they fit the chip.
-fn divide_clock<G: BaudGenerator>(clk: u32, baud: u32) -> Result<Divider, Refusal>
-    requires { (1 ≤ clk) × (1 ≤ baud) }
-    ensures { MatchResult result (λ v. Divides G.BaudGenerator.limits clk baud v) (λ e. (e ≡ DividerOutOfRange) × IsOutOfBounds G.BaudGenerator.limits clk baud) }
+// The divider for a clock and a baud rate: the least prescaler, and under it the largest divider that is not too slow, if they fit the chip.
+fn divide_clock<G: BaudGenerator>(request: &Request) -> Result<Divider, Refusal>
+    ensures { MatchResult result (Divides (limits G.BaudGenerator) request.now.clk request.now.baud) (λ e. (e ≡ DividerOutOfRange) × IsOutOfBounds (limits G.BaudGenerator) request.now.clk request.now.baud) }
 {
-    let limits = G::limits();
-    let prescaler = least_prescaler(limits.q, clk, baud);
-    if prescaler > u64::from(limits.p) {
+    let prescaler = request.least_prescaler(G::Q);
+    if prescaler > u64::from(G::P) {
         return Err(Refusal::DividerOutOfRange);
     }
-    let divisor = divisor(limits.q, clk, baud, prescaler);
+    let divisor = request.divisor(G::Q, prescaler);
     if divisor == 0 {
         return Err(Refusal::DividerOutOfRange);
     }
     let integer = divisor / 16;
-    if integer > u64::from(limits.i) {
+    if integer > u64::from(G::I) {
         return Err(Refusal::DividerOutOfRange);
     }
     Ok(Divider {
@@ -78,14 +71,17 @@ fn divide<G: BaudGenerator>(config: &Config, clocks: &Clocks) -> Result<Divider,
     requires percent { IsPercentInRange config.now.baudrate_tolerance }
     requires baud { IsBaudInRange config.now.baudrate }
     requires clock { IsClockUsable (G.BaudGenerator.has config.now.clock_source) (hertz_of clocks.now config.now.clock_source) }
-    ensures { Judges G.BaudGenerator.limits G.BaudGenerator.has config.now clocks.now result }
+    ensures { Judges (limits G.BaudGenerator) G.BaudGenerator.has config.now clocks.now result }
 {
-    divide_clock::<G>(clocks.hertz(config.clock_source), config.baudrate)
+    divide_clock::<G>(&Request {
+        clk: clocks.hertz(config.clock_source),
+        baud: config.baudrate,
+    })
 }
 
 // The judgement on a configuration before anything is written: the first of the four tests that fails, or the divider.
 pub fn judge<G: BaudGenerator>(config: &Config, clocks: &Clocks) -> Result<Divider, Refusal>
-    ensures { Judges G.BaudGenerator.limits G.BaudGenerator.has config.now clocks.now result }
+    ensures { Judges (limits G.BaudGenerator) G.BaudGenerator.has config.now clocks.now result }
 {
     judge_percent(config.baudrate_tolerance)?;
     judge_baud(config.baudrate)?;

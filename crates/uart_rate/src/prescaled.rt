@@ -8,8 +8,8 @@ use super::config::ClockSource;
 pub(crate) fn has_prescaled_source(source: ClockSource) -> bool
     ensures { result ≡ prescaled_has source }
 {
-    match source {
-        ClockSource::Apb | ClockSource::RcFast | ClockSource::Xtal => true,
-        ClockSource::RefTick => false,
-    }
+    matches!(
+        source,
+        ClockSource::Apb | ClockSource::RcFast | ClockSource::Xtal
+    )
 }

@@ -1,32 +1,44 @@
 // The arithmetic of the rate rules.
-ghost use Rattle.std.specs.Prelude.{◌≡◌, ℕ, ◌+◌, ◌-◌, ◌*◌, ◌/◌, ◌%◌, ◌^◌, ◌<◌, ◌≤◌};
+ghost use Rattle.std.specs.Prelude.{◌≡◌, ℕ, ◌+◌, ◌-◌, ◌*◌, ◌/◌, ◌%◌, ◌^◌, ◌<◌, ◌≤◌, nat_lt};
 ghost use Rattle.uart_rate.specs.Rates.{LeastPrescaler, RateLaw, WholePart, sixteenths_of};
 
 use super::divider::Divider;
-
-// The least prescaler for a clock and a baud rate.
-pub(crate) fn least_prescaler(q: u32, clk: u32, baud: u32) -> u64
-    requires { (1 ≤ q) × ((1 ≤ clk) × (1 ≤ baud)) }
-    ensures least { LeastPrescaler q clk baud result }
-    ensures bound { result ≤ clk }
-{
-    (u64::from(clk) - 1) / (u64::from(q) * u64::from(baud)) + 1
-}
-
-// The largest divider, in sixteenths, that is not slower than asked under the least prescaler.
-pub(crate) fn divisor(q: u32, clk: u32, baud: u32, prescaler: u64) -> u64
-    requires { (LeastPrescaler q clk baud prescaler) × ((1 ≤ baud) × (prescaler ≤ 256)) }
-    ensures { RateLaw q clk baud prescaler result }
-{
-    16 * u64::from(clk) / (u64::from(baud) * prescaler)
-}
+use super::request::Request;
 
 // The whole part of a quotient.
-pub(crate) fn whole_part(n: u64, m: u64) -> u64
+fn whole_part(n: u64, m: u64) -> u64
     requires { 1 ≤ m }
     ensures { WholePart n m result }
 {
     n / m
+}
+
+impl Request {
+    // The least prescaler under which the clock is at most Q times the baud rate.
+    pub(crate) fn least_prescaler(&self, q: u32) -> u64
+        requires { 1 ≤ q }
+        ensures least { LeastPrescaler q self.now.clk self.now.baud result }
+        ensures bound { result ≤ self.now.clk }
+    {
+        u64::from(self.clk).div_ceil(u64::from(q) * u64::from(self.baud))
+    }
+
+    // The largest divider, in sixteenths, that is not slower than asked under the least prescaler.
+    pub(crate) fn divisor(&self, q: u32, prescaler: u64) -> u64
+        requires { (LeastPrescaler q self.now.clk self.now.baud prescaler) × (prescaler ≤ 256) }
+        ensures { RateLaw q self.now.clk self.now.baud prescaler result }
+    {
+        16 * u64::from(self.clk) / (u64::from(self.baud) * prescaler)
+    }
+
+    // How far the rate is above the baud rate, in millionths of it.
+    pub(crate) fn excess(&self, divider: Divider) -> u64
+        requires { self.now.baud * divider.prescaler * sixteenths_of divider ≤ 16 * self.now.clk }
+        ensures { WholePart (1000000 * (16 * self.now.clk - self.now.baud * divider.prescaler * sixteenths_of divider)) (self.now.baud * divider.prescaler * sixteenths_of divider) result }
+    {
+        let needed = divider.needed(self.baud) as u64;
+        whole_part(1_000_000 * (16 * u64::from(self.clk) - needed), needed)
+    }
 }
 
 impl Divider {
@@ -53,11 +65,18 @@ impl Divider {
     }
 
     // How many sixteenths of a clock tick there must be in a second for the rate to be `baud`.
-    pub(crate) fn needed(&self, baud: u32) -> u128
+    fn needed(&self, baud: u32) -> u128
         ensures value { result ≡ baud * self.now.prescaler * sixteenths_of self.now }
         ensures bound { result < 2 ^ 80 }
         ensures positive { 1 ≤ baud → 1 ≤ result }
     {
         u128::from(baud) * u128::from(self.division())
+    }
+
+    // Whether the divider's rate is more than so many percent above the baud rate; reckoned without a division, so that nothing is cut off.
+    pub(crate) fn exceeds(&self, percent: u8, clk: u32, baud: u32) -> bool
+        ensures { result ≡ nat_lt ((100 + percent) * (baud * self.now.prescaler * sixteenths_of self.now)) (1600 * clk) }
+    {
+        (100 + u128::from(percent)) * self.needed(baud) < 1600 * u128::from(clk)
     }
 }

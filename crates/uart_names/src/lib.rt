@@ -1,4 +1,0 @@
-// The names that the programs print.
-#![tactic(auto)]
-
-pub mod refusals;
