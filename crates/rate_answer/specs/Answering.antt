@@ -7,7 +7,7 @@ use Rattle.uart_rate.specs.declared.refusal.Refusal.{Refusal}
 use Rattle.rate_query.specs.declared.chip.ChipName.{ChipName}
 use Rattle.rate_query.specs.declared.chip.ChipName.TheVariants.{Esp32, Esp32c3, Esp32c6}
 use Rattle.uart_rate.specs.Generators.{esp32_limits, prescaled_limits}
-use Rattle.uart_rate.specs.declared.limits.Limits.{Limits}
+use Rattle.uart_rate.specs.Limits.{Limits}
 use Rattle.rate_query.specs.declared.query.Query.{Query}
 
 -- Q, P and I of a chip

@@ -1,7 +1,6 @@
 use Rattle.std.specs.Prelude.{ℕ, ◌/◌, ◌%◌, List, [], ◌++◌, Some, None, Ok, Err, codes, decimal, Option, Result}
 use Rattle.uart_rate.specs.Rates.{sixteenths_of}
-use Rattle.uart_names.specs.Refusals.{name_of_refusal}
-use Rattle.uart_rate.specs.Refusals.{number_of}
+use Rattle.uart_rate.specs.Refusals.{number_of, name_of_refusal}
 use Rattle.uart_rate.specs.declared.achieved.Achieved.{Achieved}
 use Rattle.uart_rate.specs.declared.config.BaudrateTolerance.{BaudrateTolerance}
 use Rattle.uart_rate.specs.declared.config.BaudrateTolerance.TheVariants.{Closest, Exact, ErrorPercent}

@@ -1,6 +1,7 @@
 // The answer to a query.
 ghost use Rattle.std.specs.Prelude.{◌≡◌};
 ghost use Rattle.rate_answer.specs.Answering.{limits_of, Answers};
+ghost use Rattle.uart_rate.specs.Stated.{limits};
 
 use rate_query::chip::ChipName;
 use rate_query::query::Query;
@@ -16,10 +17,10 @@ use uart_rate::refusal::Refusal;
 
 // The answer on the chip that the query names, whose every source runs at the query's clock.
 fn answer_on<G: BaudGenerator>(query: &Query) -> Result<Achieved, Refusal>
-    requires { limits_of query.now.chip ≡ G.BaudGenerator.limits }
+    requires { limits_of query.now.chip ≡ limits G.BaudGenerator }
     ensures { Answers query.now result }
 {
-    let mut config = Config::from_source(G::default_source());
+    let mut config = Config::from_source(G::DEFAULT_SOURCE);
     config.baudrate = query.baud;
     config.baudrate_tolerance = query.tolerance.unwrap_or(BaudrateTolerance::Closest);
     let clk = query.clk;

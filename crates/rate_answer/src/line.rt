@@ -6,30 +6,28 @@ ghost use Rattle.rate_answer.specs.Lines.{percent_text, tolerance_text, answer_t
 use super::answer::answer;
 use rate_query::query::Query;
 use std::fmt;
-use uart_names::refusals::refusal_name;
 use uart_rate::achieved::Achieved;
 use uart_rate::config::BaudrateTolerance;
+use uart_rate::divider::Divider;
 use uart_rate::refusal::Refusal;
 
 // Millionths, printed as percent with four decimals.
-#[derive(Clone, Copy)]
+#[derive(Clone, Copy, Debug, PartialEq, Eq, Hash)]
 pub struct Percent(pub u32);
 
 impl fmt::Display for Percent {
     ghost output = { λ x. Some (percent_text x.0) };
 
+    #[tactic(auto, using(crate::proofs::Digits::last_four))]
     fn fmt<W: fmt::Write>(&self, f: &mut fmt::Formatter<W>) -> fmt::Result {
         let whole = self.0 / 10_000;
-        let tenths = self.0 / 1_000 % 10;
-        let hundredths = self.0 / 100 % 10;
-        let thousandths = self.0 / 10 % 10;
-        let last = self.0 % 10;
-        write!(f, "{whole}.{tenths}{hundredths}{thousandths}{last} %")
+        let decimals = self.0 % 10_000;
+        write!(f, "{whole}.{decimals:04} %")
     }
 }
 
 // A tolerance as it stands in a line: with a blank before it, or nothing where none was named.
-#[derive(Clone, Copy)]
+#[derive(Clone, Copy, Debug, PartialEq, Eq, Hash)]
 pub struct Tolerance(pub Option<BaudrateTolerance>);
 
 impl fmt::Display for Tolerance {
@@ -46,7 +44,7 @@ impl fmt::Display for Tolerance {
 }
 
 // What the head gets, or the refusal.
-#[derive(Clone, Copy)]
+#[derive(Clone, Copy, Debug, PartialEq, Eq, Hash)]
 pub struct Answer(pub Result<Achieved, Refusal>);
 
 impl fmt::Display for Answer {
@@ -55,28 +53,29 @@ impl fmt::Display for Answer {
     fn fmt<W: fmt::Write>(&self, f: &mut fmt::Formatter<W>) -> fmt::Result {
         match self.0 {
             Ok(achieved) => {
-                let p = achieved.divider.prescaler;
+                let Divider {
+                    prescaler,
+                    integer,
+                    fraction,
+                } = achieved.divider;
                 let d = achieved.divider.sixteenths();
-                let integer = achieved.divider.integer;
-                let fraction = achieved.divider.fraction;
                 let rate = achieved.rate;
                 let excess = Percent(achieved.excess);
                 write!(
                     f,
-                    "p {p} d {d} ({integer} + {fraction}/16) rate {rate} fast by {excess}"
+                    "p {prescaler} d {d} ({integer} + {fraction}/16) rate {rate} fast by {excess}"
                 )
             }
             Err(refusal) => {
                 let number = refusal.number();
-                let name = refusal_name(refusal);
-                write!(f, "refused {number} {name}")
+                write!(f, "refused {number} {refusal}")
             }
         }
     }
 }
 
 // A query with its answer.
-#[derive(Clone, Copy)]
+#[derive(Clone, Copy, Debug, PartialEq, Eq, Hash)]
 pub struct Line {
     pub query: Query,
     pub answer: Result<Achieved, Refusal>,
@@ -99,10 +98,13 @@ impl fmt::Display for Line {
     ghost output = { λ x. Some (line_text x.query x.answer) };
 
     fn fmt<W: fmt::Write>(&self, f: &mut fmt::Formatter<W>) -> fmt::Result {
-        let chip = self.query.chip.name();
-        let clk = self.query.clk;
-        let baud = self.query.baud;
-        let tolerance = Tolerance(self.query.tolerance);
+        let Query {
+            chip,
+            clk,
+            baud,
+            tolerance,
+        } = self.query;
+        let tolerance = Tolerance(tolerance);
         let answer = Answer(self.answer);
         write!(f, "{chip} {clk} {baud}{tolerance} -> {answer}")
     }

@@ -1,21 +1,17 @@
--- The texts of words, place by place.
-use Rattle.std.proofs.Common.{◌≡◌, ℕ, eqb, List, [], ◌∷◌, length, get_or, Decides, refl, arith, Bor, eqb-true}
-use lib.ListN.{get_or-map, length-map}
+-- What words ask, as it is read.
+use Rattle.std.proofs.Common.{◌≡◌, ◌≢◌, ℕ, List, [], ◌∷◌, length, Option, Some, Result, Ok, Err, MatchResult, Bor, refl, sym, subst}
 use Rattle.uart_text.specs.Left.{texts}
+use Rattle.rate_query.specs.Asking.{Asks}
+use Rattle.rate_query.specs.Reading.{QueryRead}
+use Rattle.rate_query.specs.declared.error.QueryError.{QueryError}
+use Rattle.rate_query.specs.declared.query.Query.{Query}
 
--- what stands for a word past the end
-abbrev pub no_word : Bor (List ℕ)
-no_word = record { ref_ptr = (0, 0); now = [] }
+-- no texts are those of no words
+pub no_more : (ws : List (Bor (List ℕ))) → texts ws ≡ [] → length ws ≡ 0
+no_more [] e = refl
+no_more (w ∷ ws) e = cc
 
-pub text_at : (ws : List (Bor (List ℕ))) (i : ℕ) → get_or (texts ws) i [] ≡ (get_or ws i no_word).now
-text_at ws i = get_or-map (λ (w : Bor (List ℕ)). w.now) ws i no_word
-
-pub as_many : (ws : List (Bor (List ℕ))) → length (texts ws) ≡ length ws
-as_many ws = length-map ws (λ (w : Bor (List ℕ)). w.now)
-
-pub empty : (ws : List (Bor (List ℕ))) → Decides (eqb (length ws) 0) (texts ws ≡ [])
-empty [] = (λ _. refl, λ _. refl)
-empty (w ∷ ws) = (
-  (λ e. let z : length (w ∷ ws) ≡ 0 = eqb-true (length (w ∷ ws)) 0 e in absurd (omega arith)),
-  (λ e. let z : ◌≡◌ {A = ℕ} 0 1 = cc in absurd (omega arith)),
-)
+-- some words ask what is read from them
+pub asked : (ws : List (List ℕ)) (r : Result Query QueryError) (s : Result (Option Query) QueryError) → ws ≢ [] → QueryRead ws r → MatchResult r (λ q. s ≡ Ok (Some q)) (λ e. s ≡ Err e) → Asks ws s
+asked ws (Ok q) s some read is = subst (Asks ws) (sym is) read
+asked ws (Err e) s some read is = subst (Asks ws) (sym is) (some, read)

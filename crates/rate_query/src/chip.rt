@@ -1,20 +1,15 @@
 // The chips that a query can name.
-ghost use Rattle.std.specs.Prelude.{◌≡◌, Decides, MatchOption, ◌≢◌};
+ghost use Rattle.std.specs.Prelude.{◌≡◌, ◌≢◌, MatchOption, Some};
 ghost use Rattle.rate_query.specs.Chips.{name_of, clock_of};
 ghost use Rattle.rate_query.specs.declared.chip.ChipName.{ChipName};
 
-#[derive(Clone, Copy, PartialEq, Eq, Debug)]
+use std::fmt;
+
+#[derive(Clone, Copy, Debug, PartialEq, Eq, Hash)]
 pub enum ChipName {
     Esp32,
     Esp32c3,
     Esp32c6,
-}
-
-// Whether a word is a given text.
-pub(crate) fn is_word(word: &[u8], text: &str) -> bool
-    ensures { Decides result (word.now ≡ text.now) }
-{
-    word == text.as_bytes()
 }
 
 impl ChipName {
@@ -39,19 +34,23 @@ impl ChipName {
         }
     }
 
-    // The chip that a word names.
+    // The chip that a word names. A `TryFrom` would be no plainer: there is no more to say of a word that names none.
     pub fn from_word(word: &[u8]) -> Option<ChipName>
         ensures { MatchOption result ((chip : ChipName) → word.now ≢ name_of chip) (λ chip. word.now ≡ name_of chip) }
     {
-        if is_word(word, ChipName::Esp32.name()) {
-            return Some(ChipName::Esp32);
+        match word {
+            b"esp32" => Some(ChipName::Esp32),
+            b"esp32c3" => Some(ChipName::Esp32c3),
+            b"esp32c6" => Some(ChipName::Esp32c6),
+            _ => None,
         }
-        if is_word(word, ChipName::Esp32c3.name()) {
-            return Some(ChipName::Esp32c3);
-        }
-        if is_word(word, ChipName::Esp32c6.name()) {
-            return Some(ChipName::Esp32c6);
-        }
-        None
+    }
+}
+
+impl fmt::Display for ChipName {
+    ghost output = { λ chip. Some (name_of chip) };
+
+    fn fmt<W: fmt::Write>(&self, f: &mut fmt::Formatter<W>) -> fmt::Result {
+        f.write_str(self.name())
     }
 }

@@ -1,8 +1,11 @@
 // What is wrong with the words of a query.
-ghost use Rattle.std.specs.Prelude.{◌≡◌};
+ghost use Rattle.std.specs.Prelude.{◌≡◌, Some};
 ghost use Rattle.rate_query.specs.Errors.{text_of};
 
-#[derive(Clone, Copy)]
+use std::error::Error;
+use std::fmt;
+
+#[derive(Clone, Copy, Debug, PartialEq, Eq, Hash)]
 pub enum QueryError {
     BaudMissing,
     TooManyWords,
@@ -34,3 +37,13 @@ impl QueryError {
         }
     }
 }
+
+impl fmt::Display for QueryError {
+    ghost output = { λ mistake. Some (text_of mistake) };
+
+    fn fmt<W: fmt::Write>(&self, f: &mut fmt::Formatter<W>) -> fmt::Result {
+        f.write_str(self.text())
+    }
+}
+
+impl Error for QueryError {}

@@ -2,7 +2,7 @@
 use super::chip::ChipName;
 use uart_rate::config::BaudrateTolerance;
 
-#[derive(Clone, Copy)]
+#[derive(Clone, Copy, Debug, PartialEq, Eq, Hash)]
 pub struct Query {
     pub chip: ChipName,
     pub clk: u32,

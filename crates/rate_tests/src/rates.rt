@@ -34,12 +34,12 @@ fn outcome<G: BaudGenerator>(
 }
 
 fn closest<G: BaudGenerator>(clk: u32, baud: u32) -> (u16, u64, u32) {
-    outcome::<G>(G::default_source(), clk, baud, BaudrateTolerance::Closest)
+    outcome::<G>(G::DEFAULT_SOURCE, clk, baud, BaudrateTolerance::Closest)
 }
 
 fn percent<G: BaudGenerator>(n: u8) -> (u16, u64, u32) {
     outcome::<G>(
-        G::default_source(),
+        G::DEFAULT_SOURCE,
         1_000_000,
         5_000_000,
         BaudrateTolerance::ErrorPercent(n),

@@ -17,9 +17,9 @@ fn cuts_at_blanks_and_tabs(rt: HostRuntime) -> Result<(), Fail> {
     let line = b" baud\t 9600 x\t";
     let mut left = Words::new(line);
     for word in "baud 9600 x".split(' ') {
-        assert_eq!(rt; left.next_word().ok_or("too few words")?, word.as_bytes());
+        assert_eq!(rt; left.next().ok_or("too few words")?, word.as_bytes());
     }
-    assert!(rt; left.next_word().is_none());
+    assert!(rt; left.next().is_none());
     assert_eq!(rt; split_words(rt.alloc(), line)?.len(), 3);
     Ok(())
 }

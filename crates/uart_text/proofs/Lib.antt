@@ -1,4 +1,5 @@
 pub mod Cuts
+pub mod Fronts
 pub mod Lines
 pub mod Numerals
 pub mod Reading

@@ -1,15 +1,8 @@
--- What an answer of `read_number` says where a caller knows its error by an equation, or not at all.
-use Rattle.std.proofs.Common.{◌≡◌, ℕ, ◌<◌, ◌≤◌, List, Err, sym, ◌∙◌, subst, arith}
+-- What an answer of `read_number` says.
+use Rattle.std.proofs.Common.{◌≡◌, ℕ, ◌≤◌, List, Err, sym, ◌∙◌, arith}
 use Rattle.uart_text.specs.declared.number.NumberError.{NumberError}
 use Rattle.uart_text.specs.declared.number.NumberError.TheVariants.{NotANumber, TooLarge}
 use Rattle.uart_text.specs.Number.{Number, NumberRead}
-
-module _ (s : List ℕ) (largest : ℕ) (e : NumberError) (answer : NumberRead s largest (Err e)) where
-  pub at_not_a_number : e ≡ NotANumber → (v : ℕ) → Number s v → ⊥
-  at_not_a_number is = subst (λ x. NumberRead s largest (Err x)) is answer
-
-  pub at_too_large : e ≡ TooLarge → (v : ℕ) × Number s v × (largest < v)
-  at_too_large is = subst (λ x. NumberRead s largest (Err x)) is answer
 
 -- a text has one value
 pub one_value : (s : List ℕ) (v w : ℕ) → Number s v → Number s w → v ≡ w

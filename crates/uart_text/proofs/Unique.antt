@@ -3,9 +3,9 @@ use Rattle.std.proofs.Common.{◌≡◌, ℕ, true, false, ◌≢◌, List, [], 
 use Rattle.std.specs.List.{AllByRecursion}
 use Rattle.std.proofs.lemmas.List.{same_from_push}
 use Rattle.std.proofs.lemmas.Bool.{both_ways}
-use Rattle.uart_text.proofs.Lines.{ends_in_last}
+use Rattle.uart_text.proofs.Lines.{Stripped, ends_in_last}
 use Rattle.uart_text.specs.Left.{WordsOf, no_word, first_word}
-use Rattle.uart_text.specs.Line.{Stripped, LineEnd, return_newline, newline, return, unended, WithoutEnd, Uncommented, Content}
+use Rattle.uart_text.specs.Line.{LineEnd, return_newline, newline, return, unended, WithoutEnd, Uncommented, Content}
 use Rattle.uart_text.specs.Words.{blank, AllOf, EndsWord, NextWord}
 
 -- s is empty, or begins with a byte that is not P

@@ -6,10 +6,6 @@ use Rattle.std.specs.List.{AllByRecursion}
 abbrev pub EndsIn : ℕ → List ℕ → Type 0
 EndsIn b s = (t : List ℕ) × (s ≡ t ++ (b ∷ []))
 
--- r is s without the byte b at its end, or s itself where it does not end in b (only inner functions cite this)
-abbrev pub Stripped : ℕ → List ℕ → List ℕ → Type 0
-Stripped b s r = (s ≡ r ++ (b ∷ [])) ⊎ ((s ≡ r) × (EndsIn b r → ⊥))
-
 -- e ends a line whose text is r: `\r\n` (13 and 10), a `\n` with no `\r` before it, a `\r`, or nothing behind a
 -- text that itself ends in neither
 pub data LineEnd (r : List ℕ) : List ℕ → Type 0 where

@@ -1,5 +1,5 @@
 -- What a decimal number is, and what it says.
-use Rattle.std.specs.Prelude.{◌≡◌, ℕ, suc, ◌+◌, ◌-◌, ◌*◌, ◌%◌, ◌<◌, ◌≤◌, Bool, true, cond, ◌≢◌, List, [], ◌∷◌, Ok, Err, Result}
+use Rattle.std.specs.Prelude.{◌≡◌, ℕ, suc, ◌+◌, ◌-◌, ◌*◌, ◌%◌, ◌<◌, ◌≤◌, Bool, true, cond, ◌≢◌, List, [], ◌∷◌, Ok, Err, codes, Result}
 use Rattle.std.specs.Char.{is_ascii_digit}
 use Rattle.uart_text.specs.declared.number.NumberError.{NumberError}
 use Rattle.uart_text.specs.declared.number.NumberError.TheVariants.{NotANumber, TooLarge}
@@ -38,3 +38,8 @@ abbrev pub NumberRead : List ℕ → ℕ → Result ℕ NumberError → Type 0
 NumberRead s largest (Ok v) = Number s v × (v ≤ largest)
 NumberRead s largest (Err TooLarge) = (v : ℕ) × Number s v × (largest < v)
 NumberRead s largest (Err NotANumber) = (v : ℕ) → Number s v → ⊥
+
+-- what a person is told of an error
+abbrev pub text_of : NumberError → List ℕ
+text_of NotANumber = codes "not a number"
+text_of TooLarge = codes "too large a number"

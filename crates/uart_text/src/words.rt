@@ -1,48 +1,33 @@
 // What of a line is read, and the words of it.
-ghost use Rattle.std.specs.Prelude.{◌≡◌, ◌<◌, ◌≤◌, true, false, not, [], length, take, IfOk, MatchOption, slice_index};
-ghost use Rattle.uart_text.specs.Line.{Stripped, Uncommented, Commented, WithoutEnd, Content};
+ghost use Rattle.std.specs.Prelude.{◌≡◌, true, length, IfOk, MatchOption};
+ghost use Rattle.std.specs.Iterator.{at_most};
+ghost use Rattle.uart_text.specs.Line.{Uncommented, Commented, WithoutEnd, Content};
 ghost use Rattle.uart_text.specs.Words.{blank, AllOf, NextWord};
 ghost use Rattle.uart_text.specs.Left.{left, texts, WordOrEnd, WordsOf};
 
 use std::alloc::{AllocError, Global};
 
-// The text without the byte `last` at its end, if it ends in that.
-fn strip_last(text: &[u8], last: u8) -> &[u8]
-    ensures { Stripped last text.now result.now }
-{
-    let Some((byte, rest)) = text.split_last() else {
-        return text;
-    };
-    if *byte == last { rest } else { text }
-}
-
 // The line without its end: `\n`, `\r\n`, or a lone `\r`.
 fn without_end(line: &[u8]) -> &[u8]
     ensures { WithoutEnd line.now result.now }
 {
-    strip_last(strip_last(line, b'\n'), b'\r')
+    let line = line.strip_suffix(b"\n").unwrap_or(line);
+    line.strip_suffix(b"\r").unwrap_or(line)
 }
 
 // What stands before the first `#`.
 fn before_comment(line: &[u8]) -> Option<&[u8]>
     ensures { MatchOption result (Uncommented line.now) (λ text. Commented line.now text.now) }
 {
-    for (i, byte) in line.iter().enumerate() {
-        if *byte == b'#' {
-            return Some(&line[0..i]);
-        }
-    }
-    None
+    let end = line.iter().position(|byte| *byte == b'#')?;
+    Some(&line[..end])
 }
 
 // The line up to its first `#`, or else without its end.
 pub fn content(line: &[u8]) -> &[u8]
     ensures { Content line.now result.now }
 {
-    match before_comment(line) {
-        Some(text) => text,
-        None => without_end(line),
-    }
+    before_comment(line).unwrap_or_else(|| without_end(line))
 }
 
 // Whether a byte is a space or a tab.
@@ -52,32 +37,21 @@ fn is_blank(byte: u8) -> bool
     byte == b' ' || byte == b'\t'
 }
 
-// How many bytes at the front of `text` are blank, or, where `blanks` is false, are not.
-fn leading(text: &[u8], blanks: bool) -> usize
-    ensures bound { result ≤ length text.now }
-    ensures alike { AllOf blanks (take result text.now) }
-    ensures change { result < length text.now → blank (slice_index text.now result) ≡ not blanks }
-{
-    let mut count = 0;
-    while count < text.len() && is_blank(text[count]) == blanks {
-        count += 1;
-    }
-    count
-}
-
 // The first word of `text`, and what comes after it.
-fn cut_word<'a>(text: &'a [u8]) -> Option<(&'a [u8], &'a [u8])>
+fn cut_word(text: &[u8]) -> Option<(&[u8], &[u8])>
     ensures { MatchOption result (AllOf true text.now) (λ p. NextWord text.now p.0.now p.1.now) }
 {
-    let (_, text) = text.split_at(leading(text, true));
-    if text.is_empty() {
-        return None;
-    }
-    Some(text.split_at(leading(text, false)))
+    let start = text.iter().position(|byte| !is_blank(*byte))?;
+    let text = &text[start..];
+    let end = text
+        .iter()
+        .position(|byte| is_blank(*byte))
+        .unwrap_or(text.len());
+    Some(text.split_at(end))
 }
 
-// What is left to read of a line.
-#[derive(Clone, Copy)]
+// The words of a line that are left to read. It is `Copy`, as it was before it was an iterator.
+#[derive(Clone, Copy, Debug)]
 pub struct Words<'a> {
     rest: &'a [u8],
 }
@@ -89,11 +63,16 @@ impl<'a> Words<'a> {
     {
         Words { rest: line }
     }
+}
 
-    // The next word, if there is one more.
-    pub fn next_word(&mut self) -> Option<&'a [u8]>
-        ensures { WordOrEnd (left self.old) result (left self.new) }
-    {
+impl<'a> Iterator for Words<'a> {
+    type Item = &'a [u8];
+
+    ghost next_gives = { λ old word new. WordOrEnd (left old) word (left new) };
+
+    ghost remaining = { λ words. at_most (length (left words)) };
+
+    fn next(&mut self) -> Option<&'a [u8]> {
         match cut_word(self.rest) {
             Some((word, rest)) => {
                 self.rest = rest;
@@ -107,14 +86,16 @@ impl<'a> Words<'a> {
     }
 }
 
+// The words that are left, in order. Apart from `split_words`, whose proof did not close with the two in one.
+fn collect_words<'a>(heap: Global, words: Words<'a>) -> Result<Vec<&'a [u8]>, AllocError>
+    ensures { IfOk result (λ v. WordsOf (left words.entry) (texts v.items)) }
+{
+    words.collect(heap)
+}
+
 // The words of `line`, in order.
 pub fn split_words<'a>(heap: Global, line: &'a [u8]) -> Result<Vec<&'a [u8]>, AllocError>
     ensures { IfOk result (λ v. WordsOf line.now (texts v.items)) }
 {
-    let mut all = Vec::new(heap);
-    let mut words = Words::new(line);
-    while let Some(word) = words.next_word() {
-        all.push(word)?;
-    }
-    Ok(all)
+    collect_words(heap, Words::new(line))
 }

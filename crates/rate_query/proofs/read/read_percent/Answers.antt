@@ -1,13 +1,17 @@
-use Rattle.std.proofs.Common.{refl}
-use Rattle.rate_query.specs.Reading.{tolerance_unknown}
+use Rattle.std.proofs.Common.{codes}
+use Rattle.std.proofs.lemmas.Bool.Decides.{Decides-eqb}
+use Rattle.std.proofs.lemmas.Result.{err_from_is_err_and}
+use Rattle.std.proofs.lemmas.Slice.Eq.{strip_suffix_is}
 use Rattle.rate_query.proofs.Percents.{in_percent}
 use Rattle.rate_query.proofs.read.read_percent.Goals as goal
 
-pub returns-in_default : goal.returns-in_default
-returns-in_default c = tolerance_unknown c.requires.closest c.requires.exact (λ n w. c.in_default.ensures w.0 w.1) refl
+pub returns-in_err-percent : goal.returns-in_err-percent
+returns-in_err-percent c =
+    let p = err_from_is_err_and c.from_residual-in_err-percent.result c.from_residual-in_err-percent.ensures.1 in
+    let cut = rw c.in_ok-number.ensures.ok_part at (strip_suffix_is Decides-eqb c.args.word.now (codes "%") c.strip_suffix.result c.strip_suffix.ensures.cases) in
+    rw (p.1, p.2) (in_percent c.args.word.now c.in_ok-number.number.now c.in_err-percent.field-0.0 c.requires.closest c.requires.exact cut c.in_err-percent.ensures)
 
-pub returns-in-Ok : goal.returns-in-Ok
-returns-in-Ok c = ((c.in-Some.number.now, c.in-Some.ensures, c.in-Ok.ensures.0), c.in-Ok.ensures.1)
-
-pub returns-in-Err : goal.returns-in-Err
-returns-in-Err c = in_percent c.args.word.now c.in-Some.number.now c.in-Err.e c.requires.closest c.requires.exact c.in-Some.ensures c.in-Err.ensures
+pub returns : goal.returns
+returns c =
+    let cut = rw c.in_ok-number.ensures.ok_part at (strip_suffix_is Decides-eqb c.args.word.now (codes "%") c.strip_suffix.result c.strip_suffix.ensures.cases) in
+    ((c.in_ok-number.number.now, cut, c.in_ok-percent.ensures.0), c.in_ok-percent.ensures.1)

@@ -1,22 +1,11 @@
-use Rattle.std.proofs.Common.{sym, refl, ap, ◌∙◌, arith}
+use Rattle.std.proofs.Common.{sym, refl, ◌∙◌, arith}
 use Rattle.std.proofs.lemmas.Bool.{false≢true}
-use Rattle.std.specs.Slice.Iter.{iter_rest}
-use Rattle.std.specs.Iterator.Adapters.{rev_source}
-use Rattle.uart_text.proofs.Numerals.{back_none, back_more, back_fits, back_all, accepted, no_other}
+use Rattle.uart_text.proofs.Numerals.{back_fits, back_all, accepted, no_other}
 use Rattle.uart_text.proofs.number.is_numeral.Goals as goal
-
-pub loop-byte-init : goal.loop-byte-init
-loop-byte-init c =
-    back_none c.args.grouped c.args.text.now _
-    (ap (λ it. iter_rest (rev_source it)) c.into_iter-byte-iterator.ensures.into_iter_gives ∙ ap iter_rest c.rev-byte-items.ensures.source ∙ c.iter.ensures.rest)
 
 pub step-state-requires : goal.step-state-requires
 step-state-requires c =
     omega (arith, back_fits c.args.grouped c.args.text.now _ _ _ _ c.loop-byte.invariant c.in-Some.ensures.steps)
-
-pub loop-byte-preserved : goal.loop-byte-preserved
-loop-byte-preserved c =
-    back_more c.args.grouped c.args.text.now _ _ _ _ _ c.loop-byte.invariant c.in-Some.ensures.steps c.step-state.ensures
 
 pub returns-in-Digits : goal.returns-in-Digits
 returns-in-Digits c =

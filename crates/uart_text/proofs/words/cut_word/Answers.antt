@@ -1,21 +1,19 @@
-use Rattle.std.proofs.Common.{◌<◌, length, sym, ap, ◌∙◌, arith, true-eqb, false-eqb}
-use Rattle.uart_text.proofs.Cuts.{all_blank, cut}
+use Rattle.std.proofs.Common.{◌≡◌, ◌-◌, true, false, length, take, drop, Some, ap, rules, tests, arith, length-drop}
+use Rattle.std.proofs.lemmas.Iterator.{IsFirst-from_position, YieldsList-from_slice}
+use Rattle.std.proofs.lemmas.List.{take_all}
+use Rattle.uart_text.specs.Words.{blank}
+use Rattle.uart_text.proofs.Cuts.{Leading, leading, cut}
 use Rattle.uart_text.proofs.words.cut_word.Goals as goal
-
-pub returns-then-is_empty : goal.returns-then-is_empty
-returns-then-is_empty c =
-    all_blank c.args.text.now c.leading.result c.leading.ensures.alike
-    (ap length (sym c.split_at.ensures.back) ∙ true-eqb _ 0 c.if-is_empty.ensures)
 
 pub returns : goal.returns
 returns c =
-    let t = c.split_at.result.1.now in
-    let pos : 0 < length t = omega (arith, false-eqb (length t) 0 c.if-is_empty.ensures) in
-    let blanks = c.leading.ensures in
-    let word = c.leading-2.ensures in
-    cut c.args.text.now t c.leading.result c.leading-2.result
-    (record { bound = blanks.bound; alike = blanks.alike; change = blanks.change })
-    c.split_at.ensures.back pos
-    (record { bound = word.bound; alike = word.alike; change = word.change })
-    c.split_at-2.result.0.now c.split_at-2.result.1.now
-    c.split_at-2.ensures.front c.split_at-2.ensures.back
+    let s = c.args.text.now in
+    let start = c.in_ok-start.start in
+    let t = take (length s - start) (drop start s) in
+    let rest : t ≡ drop start s = take_all (length s - start) (drop start s) (omega (arith, length-drop start s)) in
+    let first = IsFirst-from_position _ _ (Some start) (λ b. blank b ≡ false) (λ b. blank b ≡ true) c.in_ok-start.ensures.ran (YieldsList-from_slice s cc) (λ x q k. search (rules, tests)) (λ x q k. search (rules, tests)) in
+    let blanks : Leading true s start false = leading true false s (Some start) first in
+    let second = IsFirst-from_position _ _ c.position-2.result (λ b. blank b ≡ true) (λ b. blank b ≡ false) c.position-2.ensures.ran (YieldsList-from_slice t cc) (λ x q k. search (rules, tests)) (λ x q k. search (rules, tests)) in
+    let word : Leading false t c.unwrap_or-end.result true = rw c.unwrap_or-end.ensures (leading false true t c.position-2.result second) in
+    cut s t start c.unwrap_or-end.result blanks rest (omega (arith, ap length rest, length-drop start s, first.0)) word
+    c.split_at.result.0.now c.split_at.result.1.now c.split_at.ensures.front c.split_at.ensures.back
