@@ -1,5 +1,5 @@
 pub mod Files
 pub mod Flags
-pub mod Frames
 pub mod Places
 pub mod Updates
+pub mod Writes

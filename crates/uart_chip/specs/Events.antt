@@ -1,4 +1,5 @@
-use Rattle.std.specs.Prelude.{ℕ, ◌/◌, ◌%◌, ◌^◌, Bool, true, false, not, ◌&&◌, ◌||◌, nat_eq}
+use Rattle.std.specs.Prelude.{◌≡◌, ℕ, ◌/◌, ◌%◌, ◌^◌, Bool, true, false, not, ◌&&◌, ◌||◌, nat_eq, ◌==◌, List}
+use Rattle.std.specs.List.{list_any}
 use Rattle.uart_chip.specs.declared.event.Event.{Event}
 use Rattle.uart_chip.specs.declared.event.Event.TheVariants.{FifoFull, CmdCharDetected, FifoOvf, FifoTout, GlitchDetected, FrameError, ParityError, Done, FiFoEmpty}
 use Rattle.uart_chip.specs.declared.events.Events.{Events}
@@ -41,6 +42,10 @@ those p = record {
   fifo_empty = p FiFoEmpty;
 }
 
+-- the set of the events of a list
+abbrev pub among : List Event → Events
+among es = those (λ e. list_any (λ x. number_of x == number_of e) es)
+
 -- no event, and all nine
 abbrev pub none : Events
 none = those (λ _. false)
@@ -66,3 +71,7 @@ numbered n = those (λ e. nat_eq (n / 2 ^ number_of e % 2) 1)
 abbrev pub empty : Events → Bool
 empty s =
     not (s.fifo_full || s.cmd_char_detected || s.fifo_ovf || s.fifo_tout || s.glitch_detected || s.frame_error || s.parity_error || s.done || s.fifo_empty)
+
+-- the events of the first set are in the second
+abbrev pub Within : Events → Events → Type 0
+Within a b = (e : Event) → holds a e ≡ true → holds b e ≡ true

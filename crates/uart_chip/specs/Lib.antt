@@ -4,6 +4,7 @@ pub mod Events
 pub mod Fields
 pub mod Kinds
 pub mod Meanings
+pub mod Members
 pub mod Ranges
 pub mod Registers
 pub mod Steps

@@ -1,48 +1,45 @@
--- Proofs that the law `range` of `EventSet` asks of each kind: no event outside the kind is in a set of it.
-use Rattle.std.proofs.Common.{◌≡◌, ◌≢◌, false, refl}
+-- Proofs that the law `reached` of `EventKind` asks of each kind: every event of the kind is that of a case.
+use Rattle.std.proofs.Common.{◌≡◌, true, refl}
 use Rattle.uart_chip.specs.Events.{holds}
-use Rattle.uart_chip.specs.Kinds.{rx_event, rx_members, tx_event, tx_members, uart_event, uart_members}
+use Rattle.uart_chip.specs.Kinds.{rx_event, rx_every, tx_event, tx_every, uart_event, uart_every}
 use Rattle.uart_chip.specs.declared.event.Event.{Event}
 use Rattle.uart_chip.specs.declared.event.Event.TheVariants as event
-use Rattle.uart_chip.specs.declared.kinds.RxEvents.{RxEvents}
 use Rattle.uart_chip.specs.declared.kinds.RxEvent.{RxEvent}
 use Rattle.uart_chip.specs.declared.kinds.RxEvent.TheVariants as rx
-use Rattle.uart_chip.specs.declared.kinds.TxEvents.{TxEvents}
 use Rattle.uart_chip.specs.declared.kinds.TxEvent.{TxEvent}
 use Rattle.uart_chip.specs.declared.kinds.TxEvent.TheVariants as tx
-use Rattle.uart_chip.specs.declared.kinds.UartInterrupts.{UartInterrupts}
 use Rattle.uart_chip.specs.declared.kinds.UartInterrupt.{UartInterrupt}
 use Rattle.uart_chip.specs.declared.kinds.UartInterrupt.TheVariants as uart
 
-pub rx_range : (s : RxEvents) (e : Event) → ((k : RxEvent) → rx_event k ≢ e) → holds (rx_members s) e ≡ false
-rx_range s event.FifoFull h = absurd (h rx.FifoFull refl)
-rx_range s event.CmdCharDetected h = absurd (h rx.CmdCharDetected refl)
-rx_range s event.FifoOvf h = absurd (h rx.FifoOvf refl)
-rx_range s event.FifoTout h = absurd (h rx.FifoTout refl)
-rx_range s event.GlitchDetected h = absurd (h rx.GlitchDetected refl)
-rx_range s event.FrameError h = absurd (h rx.FrameError refl)
-rx_range s event.ParityError h = absurd (h rx.ParityError refl)
-rx_range s event.Done h = refl
-rx_range s event.FiFoEmpty h = refl
+pub rx_reached : (e : Event) → holds rx_every e ≡ true → (k : RxEvent) × (rx_event k ≡ e)
+rx_reached event.FifoFull h = (rx.FifoFull, refl)
+rx_reached event.CmdCharDetected h = (rx.CmdCharDetected, refl)
+rx_reached event.FifoOvf h = (rx.FifoOvf, refl)
+rx_reached event.FifoTout h = (rx.FifoTout, refl)
+rx_reached event.GlitchDetected h = (rx.GlitchDetected, refl)
+rx_reached event.FrameError h = (rx.FrameError, refl)
+rx_reached event.ParityError h = (rx.ParityError, refl)
+rx_reached event.Done h = absurd cc
+rx_reached event.FiFoEmpty h = absurd cc
 
-pub tx_range : (s : TxEvents) (e : Event) → ((k : TxEvent) → tx_event k ≢ e) → holds (tx_members s) e ≡ false
-tx_range s event.FifoFull h = refl
-tx_range s event.CmdCharDetected h = refl
-tx_range s event.FifoOvf h = refl
-tx_range s event.FifoTout h = refl
-tx_range s event.GlitchDetected h = refl
-tx_range s event.FrameError h = refl
-tx_range s event.ParityError h = refl
-tx_range s event.Done h = absurd (h tx.Done refl)
-tx_range s event.FiFoEmpty h = absurd (h tx.FiFoEmpty refl)
+pub tx_reached : (e : Event) → holds tx_every e ≡ true → (k : TxEvent) × (tx_event k ≡ e)
+tx_reached event.FifoFull h = absurd cc
+tx_reached event.CmdCharDetected h = absurd cc
+tx_reached event.FifoOvf h = absurd cc
+tx_reached event.FifoTout h = absurd cc
+tx_reached event.GlitchDetected h = absurd cc
+tx_reached event.FrameError h = absurd cc
+tx_reached event.ParityError h = absurd cc
+tx_reached event.Done h = (tx.Done, refl)
+tx_reached event.FiFoEmpty h = (tx.FiFoEmpty, refl)
 
-pub uart_range : (s : UartInterrupts) (e : Event) → ((k : UartInterrupt) → uart_event k ≢ e) → holds (uart_members s) e ≡ false
-uart_range s event.FifoFull h = absurd (h uart.RxFifoFull refl)
-uart_range s event.CmdCharDetected h = absurd (h uart.AtCmd refl)
-uart_range s event.FifoOvf h = refl
-uart_range s event.FifoTout h = absurd (h uart.RxTimeout refl)
-uart_range s event.GlitchDetected h = refl
-uart_range s event.FrameError h = refl
-uart_range s event.ParityError h = refl
-uart_range s event.Done h = absurd (h uart.TxDone refl)
-uart_range s event.FiFoEmpty h = refl
+pub uart_reached : (e : Event) → holds uart_every e ≡ true → (k : UartInterrupt) × (uart_event k ≡ e)
+uart_reached event.FifoFull h = (uart.RxFifoFull, refl)
+uart_reached event.CmdCharDetected h = (uart.AtCmd, refl)
+uart_reached event.FifoOvf h = absurd cc
+uart_reached event.FifoTout h = (uart.RxTimeout, refl)
+uart_reached event.GlitchDetected h = absurd cc
+uart_reached event.FrameError h = absurd cc
+uart_reached event.ParityError h = absurd cc
+uart_reached event.Done h = (uart.TxDone, refl)
+uart_reached event.FiFoEmpty h = absurd cc

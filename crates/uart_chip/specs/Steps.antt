@@ -3,7 +3,8 @@ use Rattle.uart_rate.specs.declared.config.ClockSource.{ClockSource}
 use Rattle.uart_rate.specs.declared.config.ClockSource.TheVariants.{Apb, RcFast, Xtal, RefTick}
 use Rattle.uart_rate.specs.declared.config.StopBits.{StopBits}
 use Rattle.uart_rate.specs.declared.config.StopBits.TheVariants as stop
-use Rattle.uart_chip.specs.Device.{Rest, written}
+use Rattle.uart_chip.specs.Device.{Meaning, Rest, with_rest, written}
+use Rattle.uart_chip.specs.Fields.{put}
 use Rattle.uart_chip.specs.declared.at_cmd.AtCmdConfig.{AtCmdConfig}
 use Rattle.uart_chip.specs.declared.field.Field.{Field}
 use Rattle.uart_chip.specs.declared.field.Field.TheVariants as field
@@ -23,6 +24,15 @@ Writes = List (Field × ℕ)
 abbrev pub written_all : Bool → Writes → Rest → Rest
 written_all updates [] r = r
 written_all updates (w ∷ ws) r = written_all updates ws (written updates w.0 w.1 r)
+
+-- the fields after writes were made one after the other
+abbrev pub put_all : Writes → (Field → ℕ) → Field → ℕ
+put_all [] fs = fs
+put_all (w ∷ ws) fs = put_all ws (put w.0 w.1 fs)
+
+-- a device after writes were made one after the other: its events, its count and its arrivals are as before
+abbrev pub after_writes : Bool → Writes → Meaning → Meaning
+after_writes updates ws m = with_rest (written_all updates ws m.rest) m
 
 -- writes that are made under a condition only
 abbrev pub when : Bool → Writes → Writes

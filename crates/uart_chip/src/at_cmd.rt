@@ -1,5 +1,5 @@
 // What makes a run of characters an AT command.
-#[derive(Clone, Copy)]
+#[derive(Clone, Copy, Debug, PartialEq, Eq)]
 pub struct AtCmdConfig {
     pub pre_idle_count: Option<u16>,
     pub post_idle_count: Option<u16>,

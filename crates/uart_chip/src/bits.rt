@@ -1,4 +1,4 @@
-// Sets of every kind as numbers.
+// Sets of every kind as numbers. No `From` can be written for every type that is a set, so these are functions.
 ghost use Rattle.std.specs.Prelude.{◌≡◌, ◌<◌};
 ghost use Rattle.uart_chip.specs.Events.{numbered};
 
@@ -9,6 +9,7 @@ use super::set::EventSet;
 pub fn bits_of<S: EventSet>(set: S) -> u32
     ensures members { numbered result ≡ S.EventSet.members set }
     ensures range { result < 512 }
+    ensures back { S.EventSet.part (numbered result) ≡ set }
 {
     set.events().bits()
 }

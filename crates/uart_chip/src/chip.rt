@@ -1,9 +1,9 @@
 // The chip interface: an event source that has fields and an update as well.
-ghost use Rattle.std.specs.Prelude.{◌≡◌, ℕ, nat_lt};
-ghost use Rattle.uart_chip.specs.Device.{with_rest, written, requested, polled};
-ghost use Rattle.uart_chip.specs.Meanings.{meaning};
+ghost use Rattle.std.specs.Prelude.{◌≡◌, [], ◌∷◌, nat_lt};
+ghost use Rattle.uart_chip.specs.Device.{with_rest, requested, polled};
+ghost use Rattle.uart_chip.specs.Meanings.{meaning, Wrote};
 ghost use Rattle.uart_chip.specs.Registers.{value_of};
-ghost use Rattle.uart_chip.specs.Steps.{written_all, clock_writes, stop_writes, timeout_writes, at_cmd_writes};
+ghost use Rattle.uart_chip.specs.Steps.{clock_writes, stop_writes, timeout_writes, at_cmd_writes};
 
 use super::at_cmd::AtCmdConfig;
 use super::field::Field;
@@ -29,7 +29,7 @@ pub trait Chip: EventSource {
 
     // Gives a field a value.
     fn write(&mut self, field: Field, value: u32)
-        ensures { meaning Self.EventSource self.new ≡ with_rest (written Self.Kind.ChipKind.properties.has_update field value (meaning Self.EventSource self.old).rest) (meaning Self.EventSource self.old) };
+        ensures { Wrote Self.EventSource Self.Kind.ChipKind.PROPERTIES.has_update ((field, value) ∷ []) self.old self.new };
 
     // Requests an update.
     fn request(&mut self)
@@ -42,17 +42,17 @@ pub trait Chip: EventSource {
 
     // Writes the clock source and the prescaler.
     fn write_clock(&mut self, source: ClockSource, prescaler: u16)
-        ensures { meaning Self.EventSource self.new ≡ with_rest (written_all Self.Kind.ChipKind.properties.has_update (clock_writes Self.Kind.ChipKind.properties Self.Kind.BaudGenerator.limits.p source prescaler) (meaning Self.EventSource self.old).rest) (meaning Self.EventSource self.old) };
+        ensures { Wrote Self.EventSource Self.Kind.ChipKind.PROPERTIES.has_update (clock_writes Self.Kind.ChipKind.PROPERTIES Self.Kind.BaudGenerator.P source prescaler) self.old self.new };
 
     // Writes the stop bits.
     fn write_stop(&mut self, stop: StopBits)
-        ensures { meaning Self.EventSource self.new ≡ with_rest (written_all Self.Kind.ChipKind.properties.has_update (stop_writes Self.Kind.ChipKind.properties.stop_rule stop) (meaning Self.EventSource self.old).rest) (meaning Self.EventSource self.old) };
+        ensures { Wrote Self.EventSource Self.Kind.ChipKind.PROPERTIES.has_update (stop_writes Self.Kind.ChipKind.PROPERTIES.stop_rule stop) self.old self.new };
 
     // Writes the receive timeout, or that there is none.
     fn write_timeout(&mut self, timeout: Option<u8>)
-        ensures { meaning Self.EventSource self.new ≡ with_rest (written_all Self.Kind.ChipKind.properties.has_update (timeout_writes Self.Kind.ChipKind.properties.timeout_rule (meaning Self.EventSource self.old).rest.fields timeout) (meaning Self.EventSource self.old).rest) (meaning Self.EventSource self.old) };
+        ensures { Wrote Self.EventSource Self.Kind.ChipKind.PROPERTIES.has_update (timeout_writes Self.Kind.ChipKind.PROPERTIES.timeout_rule (meaning Self.EventSource self.old).rest.fields timeout) self.old self.new };
 
     // Writes what makes an AT command.
     fn write_at_cmd(&mut self, config: AtCmdConfig)
-        ensures { meaning Self.EventSource self.new ≡ with_rest (written_all Self.Kind.ChipKind.properties.has_update (at_cmd_writes Self.Kind.ChipKind.properties.has_gate config) (meaning Self.EventSource self.old).rest) (meaning Self.EventSource self.old) };
+        ensures { Wrote Self.EventSource Self.Kind.ChipKind.PROPERTIES.has_update (at_cmd_writes Self.Kind.ChipKind.PROPERTIES.has_gate config) self.old self.new };
 }

@@ -1,74 +1,83 @@
 // The nine events of a UART, and sets of them.
 ghost use Rattle.std.specs.Prelude.{◌≡◌, ℕ, ◌+◌, ◌/◌, ◌%◌, ◌<◌, Bool, true, false, not, ◌&&◌, ◌||◌};
-ghost use Rattle.uart_chip.specs.Events.{number_of, none, every, empty, holds, union, meet, without, numbered};
+ghost use Rattle.uart_chip.specs.declared.event.Event.{Event};
+ghost use Rattle.uart_chip.specs.Events.{number_of, among, none, every, empty, holds, union, meet, without, numbered};
 
 use super::events::Events;
 
-#[derive(Clone, Copy, PartialEq, Eq, Debug)]
+#[derive(Clone, Copy, Debug, PartialEq, Eq)]
 pub enum Event {
-    FifoFull,
-    CmdCharDetected,
-    FifoOvf,
-    FifoTout,
-    GlitchDetected,
-    FrameError,
-    ParityError,
-    Done,
-    FiFoEmpty,
+    FifoFull = 0,
+    CmdCharDetected = 1,
+    FifoOvf = 2,
+    FifoTout = 3,
+    GlitchDetected = 4,
+    FrameError = 5,
+    ParityError = 6,
+    Done = 7,
+    FiFoEmpty = 8,
 }
 
 impl Event {
+    // All nine, by their bits.
+    pub const ALL: [Event; 9] = [
+        Event::FifoFull,
+        Event::CmdCharDetected,
+        Event::FifoOvf,
+        Event::FifoTout,
+        Event::GlitchDetected,
+        Event::FrameError,
+        Event::ParityError,
+        Event::Done,
+        Event::FiFoEmpty,
+    ];
+
     // The event's bit.
     pub fn number(self) -> u8
         ensures { result ≡ number_of self }
     {
-        match self {
-            Event::FifoFull => 0,
-            Event::CmdCharDetected => 1,
-            Event::FifoOvf => 2,
-            Event::FifoTout => 3,
-            Event::GlitchDetected => 4,
-            Event::FrameError => 5,
-            Event::ParityError => 6,
-            Event::Done => 7,
-            Event::FiFoEmpty => 8,
-        }
+        self as u8
     }
 }
 
 impl Events {
+    // The set of the events of which a test is true.
+    pub fn those<F: Fn(Event) -> bool>(test: F) -> Events
+        requires { F.IsAlwaysCallable test }
+        ensures { (event : Event) → F.post test event (holds result event) }
+    {
+        Events {
+            fifo_full: test(Event::FifoFull),
+            cmd_char_detected: test(Event::CmdCharDetected),
+            fifo_ovf: test(Event::FifoOvf),
+            fifo_tout: test(Event::FifoTout),
+            glitch_detected: test(Event::GlitchDetected),
+            frame_error: test(Event::FrameError),
+            parity_error: test(Event::ParityError),
+            done: test(Event::Done),
+            fifo_empty: test(Event::FiFoEmpty),
+        }
+    }
+
     // No event.
     pub fn none() -> Events
         ensures { result ≡ none }
     {
-        Events {
-            fifo_full: false,
-            cmd_char_detected: false,
-            fifo_ovf: false,
-            fifo_tout: false,
-            glitch_detected: false,
-            frame_error: false,
-            parity_error: false,
-            done: false,
-            fifo_empty: false,
-        }
+        Events::of(&[])
     }
 
     // All nine events.
     pub fn all() -> Events
         ensures { result ≡ every }
     {
-        Events {
-            fifo_full: true,
-            cmd_char_detected: true,
-            fifo_ovf: true,
-            fifo_tout: true,
-            glitch_detected: true,
-            frame_error: true,
-            parity_error: true,
-            done: true,
-            fifo_empty: true,
-        }
+        Events::of(&Event::ALL)
+    }
+
+    // The set of some events.
+    pub fn of(events: &[Event]) -> Events
+        ensures { result ≡ among events.now }
+    {
+        Events::those(|event| events.contains(&event))
     }
 
     // Whether an event is in the set.
@@ -92,83 +101,35 @@ impl Events {
     pub fn union(self, other: Events) -> Events
         ensures { result ≡ union self other }
     {
-        Events {
-            fifo_full: self.fifo_full | other.fifo_full,
-            cmd_char_detected: self.cmd_char_detected | other.cmd_char_detected,
-            fifo_ovf: self.fifo_ovf | other.fifo_ovf,
-            fifo_tout: self.fifo_tout | other.fifo_tout,
-            glitch_detected: self.glitch_detected | other.glitch_detected,
-            frame_error: self.frame_error | other.frame_error,
-            parity_error: self.parity_error | other.parity_error,
-            done: self.done | other.done,
-            fifo_empty: self.fifo_empty | other.fifo_empty,
-        }
+        Events::those(|event| self.contains(event) | other.contains(event))
     }
 
     // The events of both sets.
     pub fn intersection(self, other: Events) -> Events
         ensures { result ≡ meet self other }
     {
-        Events {
-            fifo_full: self.fifo_full & other.fifo_full,
-            cmd_char_detected: self.cmd_char_detected & other.cmd_char_detected,
-            fifo_ovf: self.fifo_ovf & other.fifo_ovf,
-            fifo_tout: self.fifo_tout & other.fifo_tout,
-            glitch_detected: self.glitch_detected & other.glitch_detected,
-            frame_error: self.frame_error & other.frame_error,
-            parity_error: self.parity_error & other.parity_error,
-            done: self.done & other.done,
-            fifo_empty: self.fifo_empty & other.fifo_empty,
-        }
+        Events::those(|event| self.contains(event) & other.contains(event))
     }
 
     // Whether the set has no event.
     pub fn is_empty(self) -> bool
         ensures { result ≡ empty self }
     {
-        !(self.fifo_full
-            | self.cmd_char_detected
-            | self.fifo_ovf
-            | self.fifo_tout
-            | self.glitch_detected
-            | self.frame_error
-            | self.parity_error
-            | self.done
-            | self.fifo_empty)
+        self == Events::none()
     }
 
     // The events of this set that are not in the other.
     pub fn without(self, other: Events) -> Events
         ensures { result ≡ without self other }
     {
-        Events {
-            fifo_full: self.fifo_full & !other.fifo_full,
-            cmd_char_detected: self.cmd_char_detected & !other.cmd_char_detected,
-            fifo_ovf: self.fifo_ovf & !other.fifo_ovf,
-            fifo_tout: self.fifo_tout & !other.fifo_tout,
-            glitch_detected: self.glitch_detected & !other.glitch_detected,
-            frame_error: self.frame_error & !other.frame_error,
-            parity_error: self.parity_error & !other.parity_error,
-            done: self.done & !other.done,
-            fifo_empty: self.fifo_empty & !other.fifo_empty,
-        }
+        Events::those(|event| self.contains(event) & !other.contains(event))
     }
 
-    // The set whose events have their bits set in a number; bits from 9 up say nothing.
+    // The set whose events have their bits set in a number; bits from 9 up say nothing, so this is no lossless conversion and no `From`.
     pub fn from_bits(bits: u32) -> Events
         ensures { result ≡ numbered bits }
     {
-        Events {
-            fifo_full: bits % 2 == 1,
-            cmd_char_detected: bits / 2 % 2 == 1,
-            fifo_ovf: bits / 4 % 2 == 1,
-            fifo_tout: bits / 8 % 2 == 1,
-            glitch_detected: bits / 16 % 2 == 1,
-            frame_error: bits / 32 % 2 == 1,
-            parity_error: bits / 64 % 2 == 1,
-            done: bits / 128 % 2 == 1,
-            fifo_empty: bits / 256 % 2 == 1,
-        }
+        Events::those(|event| (bits >> event.number()) % 2 == 1)
     }
 
     // The number whose bits are the events of the set.
@@ -176,6 +137,7 @@ impl Events {
         ensures same { numbered result ≡ self }
         ensures range { result < 512 }
     {
+        // Each weight is written out: a sum over `Event::ALL` by an iterator left its goals open.
         u32::from(self.fifo_full)
             + 2 * u32::from(self.cmd_char_detected)
             + 4 * u32::from(self.fifo_ovf)

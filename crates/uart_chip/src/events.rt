@@ -1,5 +1,5 @@
 // A set of events: which of the nine are in it, and nothing else.
-#[derive(Clone, Copy)]
+#[derive(Clone, Copy, Debug, PartialEq, Eq)]
 pub struct Events {
     pub fifo_full: bool,
     pub cmd_char_detected: bool,

@@ -2,44 +2,44 @@
 ghost use Rattle.std.specs.Prelude.{◌≡◌, ◌<◌};
 ghost use Rattle.uart_chip.specs.Fields.{index_of, line};
 
-#[derive(Clone, Copy)]
+#[derive(Clone, Copy, Debug, PartialEq, Eq)]
 pub enum Field {
-    SclkSel,
-    SclkDivNum,
-    SclkDivA,
-    SclkDivB,
-    SclkEn,
-    DigClk8mEn,
-    TickRefAlwaysOn,
-    Clkdiv,
-    Frag,
-    BitNum,
-    ParityEn,
-    Parity,
-    StopBitNum,
-    Dl1En,
-    XonChar,
-    XoffChar,
-    XonThreshold,
-    XoffThreshold,
-    SwFlowConEn,
-    XonoffDel,
-    TxFlowEn,
-    RxFlowEn,
-    RxFlowThrhd,
-    RxfifoFullThrhd,
-    RxToutThrhd,
-    RxToutEn,
-    RxfifoRst,
-    TxfifoRst,
-    TxfifoEmptyThrhd,
-    AtCmdChar,
-    CharNum,
-    PreIdleNum,
-    PostIdleNum,
-    RxGapTout,
-    TxIdleNum,
-    ErrWrMask,
+    SclkSel = 0,
+    SclkDivNum = 1,
+    SclkDivA = 2,
+    SclkDivB = 3,
+    SclkEn = 4,
+    DigClk8mEn = 5,
+    TickRefAlwaysOn = 6,
+    Clkdiv = 7,
+    Frag = 8,
+    BitNum = 9,
+    ParityEn = 10,
+    Parity = 11,
+    StopBitNum = 12,
+    Dl1En = 13,
+    XonChar = 14,
+    XoffChar = 15,
+    XonThreshold = 16,
+    XoffThreshold = 17,
+    SwFlowConEn = 18,
+    XonoffDel = 19,
+    TxFlowEn = 20,
+    RxFlowEn = 21,
+    RxFlowThrhd = 22,
+    RxfifoFullThrhd = 23,
+    RxToutThrhd = 24,
+    RxToutEn = 25,
+    RxfifoRst = 26,
+    TxfifoRst = 27,
+    TxfifoEmptyThrhd = 28,
+    AtCmdChar = 29,
+    CharNum = 30,
+    PreIdleNum = 31,
+    PostIdleNum = 32,
+    RxGapTout = 33,
+    TxIdleNum = 34,
+    ErrWrMask = 35,
 }
 
 impl Field {
@@ -48,50 +48,14 @@ impl Field {
         ensures value { result ≡ index_of self }
         ensures bound { result < 36 }
     {
-        match self {
-            Field::SclkSel => 0,
-            Field::SclkDivNum => 1,
-            Field::SclkDivA => 2,
-            Field::SclkDivB => 3,
-            Field::SclkEn => 4,
-            Field::DigClk8mEn => 5,
-            Field::TickRefAlwaysOn => 6,
-            Field::Clkdiv => 7,
-            Field::Frag => 8,
-            Field::BitNum => 9,
-            Field::ParityEn => 10,
-            Field::Parity => 11,
-            Field::StopBitNum => 12,
-            Field::Dl1En => 13,
-            Field::XonChar => 14,
-            Field::XoffChar => 15,
-            Field::XonThreshold => 16,
-            Field::XoffThreshold => 17,
-            Field::SwFlowConEn => 18,
-            Field::XonoffDel => 19,
-            Field::TxFlowEn => 20,
-            Field::RxFlowEn => 21,
-            Field::RxFlowThrhd => 22,
-            Field::RxfifoFullThrhd => 23,
-            Field::RxToutThrhd => 24,
-            Field::RxToutEn => 25,
-            Field::RxfifoRst => 26,
-            Field::TxfifoRst => 27,
-            Field::TxfifoEmptyThrhd => 28,
-            Field::AtCmdChar => 29,
-            Field::CharNum => 30,
-            Field::PreIdleNum => 31,
-            Field::PostIdleNum => 32,
-            Field::RxGapTout => 33,
-            Field::TxIdleNum => 34,
-            Field::ErrWrMask => 35,
-        }
+        self as usize
     }
 
     // Whether a write of the field reaches the line only by an update.
     pub fn is_line(self) -> bool
         ensures { result ≡ line self }
     {
+        // A negated `matches!` of these fields left its goal open, so the `match` is written out.
         match self {
             Field::SclkSel
             | Field::SclkDivNum

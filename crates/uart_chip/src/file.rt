@@ -6,19 +6,14 @@ ghost use Rattle.uart_chip.specs.Registers.{value_of};
 use super::field::Field;
 use super::registers::Registers;
 
-// The place of the clock gate.
-const GATE: usize = 4;
-
 impl Registers {
     // The value of a field.
     pub fn read(&self, field: Field) -> u32
         ensures { result ≡ value_of self.now field }
     {
-        let place = field.index();
-        if place == GATE {
-            self.sclk_en
-        } else {
-            self.values[place]
+        match field {
+            Field::SclkEn => self.sclk_en,
+            _ => self.values[field.index()],
         }
     }
 
@@ -26,11 +21,9 @@ impl Registers {
     pub fn write(&mut self, field: Field, value: u32)
         ensures { value_of self.new ≡ put field value (value_of self.old) }
     {
-        let index = field.index();
-        if index == GATE {
-            self.sclk_en = value;
-        } else {
-            self.values[index] = value;
+        match field {
+            Field::SclkEn => self.sclk_en = value,
+            _ => self.values[field.index()] = value,
         }
     }
 }

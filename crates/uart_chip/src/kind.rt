@@ -6,8 +6,7 @@ use super::properties::Properties;
 use uart_rate::generator::BaudGenerator;
 
 pub trait ChipKind: BaudGenerator {
-    ghost properties: { Properties };
+    ghost PROPERTIES: { Properties };
 
-    fn properties() -> Properties
-        ensures { result ≡ properties };
+    const PROPERTIES: Properties;
 }

@@ -1,6 +1,14 @@
 // The kinds of events that a caller names: those of the receiver, those of the transmitter, and the driver's interrupts.
+ghost use Rattle.uart_chip.specs.Kinds.{rx_event, tx_event, uart_event, rx_every, tx_every, uart_every};
+ghost use Rattle.uart_chip.specs.Ranges.{rx_reached, tx_reached, uart_reached};
+ghost use Rattle.std.proofs.Common.{rules};
 
-#[derive(Clone, Copy)]
+use super::enum_set::EnumSet;
+use super::event::Event;
+use super::event_kind::EventKind;
+use super::events::Events;
+
+#[derive(Clone, Copy, Debug, PartialEq, Eq)]
 pub enum RxEvent {
     FifoFull,
     CmdCharDetected,
@@ -11,13 +19,13 @@ pub enum RxEvent {
     ParityError,
 }
 
-#[derive(Clone, Copy)]
+#[derive(Clone, Copy, Debug, PartialEq, Eq)]
 pub enum TxEvent {
     Done,
     FiFoEmpty,
 }
 
-#[derive(Clone, Copy)]
+#[derive(Clone, Copy, Debug, PartialEq, Eq)]
 pub enum UartInterrupt {
     AtCmd,
     TxDone,
@@ -25,30 +33,100 @@ pub enum UartInterrupt {
     RxTimeout,
 }
 
-// A set of receive events, by its members.
-#[derive(Clone, Copy)]
-pub struct RxEvents {
-    pub fifo_full: bool,
-    pub cmd_char_detected: bool,
-    pub fifo_ovf: bool,
-    pub fifo_tout: bool,
-    pub glitch_detected: bool,
-    pub frame_error: bool,
-    pub parity_error: bool,
+impl EventKind for RxEvent {
+    ghost event = { rx_event };
+
+    ghost every = { rx_every };
+
+    ghost distinct = { Prim.search rules };
+
+    ghost within = { Prim.search rules };
+
+    ghost reached = { rx_reached };
+
+    fn event(self) -> Event {
+        match self {
+            RxEvent::FifoFull => Event::FifoFull,
+            RxEvent::CmdCharDetected => Event::CmdCharDetected,
+            RxEvent::FifoOvf => Event::FifoOvf,
+            RxEvent::FifoTout => Event::FifoTout,
+            RxEvent::GlitchDetected => Event::GlitchDetected,
+            RxEvent::FrameError => Event::FrameError,
+            RxEvent::ParityError => Event::ParityError,
+        }
+    }
+
+    fn every() -> Events {
+        Events::of(&[
+            Event::FifoFull,
+            Event::CmdCharDetected,
+            Event::FifoOvf,
+            Event::FifoTout,
+            Event::GlitchDetected,
+            Event::FrameError,
+            Event::ParityError,
+        ])
+    }
 }
+
+impl EventKind for TxEvent {
+    ghost event = { tx_event };
+
+    ghost every = { tx_every };
+
+    ghost distinct = { Prim.search rules };
+
+    ghost within = { Prim.search rules };
+
+    ghost reached = { tx_reached };
+
+    fn event(self) -> Event {
+        match self {
+            TxEvent::Done => Event::Done,
+            TxEvent::FiFoEmpty => Event::FiFoEmpty,
+        }
+    }
+
+    fn every() -> Events {
+        Events::of(&[Event::Done, Event::FiFoEmpty])
+    }
+}
+
+impl EventKind for UartInterrupt {
+    ghost event = { uart_event };
+
+    ghost every = { uart_every };
+
+    ghost distinct = { Prim.search rules };
+
+    ghost within = { Prim.search rules };
+
+    ghost reached = { uart_reached };
+
+    fn event(self) -> Event {
+        match self {
+            UartInterrupt::AtCmd => Event::CmdCharDetected,
+            UartInterrupt::TxDone => Event::Done,
+            UartInterrupt::RxFifoFull => Event::FifoFull,
+            UartInterrupt::RxTimeout => Event::FifoTout,
+        }
+    }
+
+    fn every() -> Events {
+        Events::of(&[
+            Event::CmdCharDetected,
+            Event::Done,
+            Event::FifoFull,
+            Event::FifoTout,
+        ])
+    }
+}
+
+// A set of receive events.
+pub type RxEvents = EnumSet<RxEvent>;
 
 // A set of transmit events.
-#[derive(Clone, Copy)]
-pub struct TxEvents {
-    pub done: bool,
-    pub fifo_empty: bool,
-}
+pub type TxEvents = EnumSet<TxEvent>;
 
 // A set of interrupts.
-#[derive(Clone, Copy)]
-pub struct UartInterrupts {
-    pub at_cmd: bool,
-    pub tx_done: bool,
-    pub rx_fifo_full: bool,
-    pub rx_timeout: bool,
-}
+pub type UartInterrupts = EnumSet<UartInterrupt>;

@@ -1,4 +1,5 @@
 // What a chip states about itself, where chips differ.
+// No code compares or prints these, and each further derive makes every check of the crate longer, which was tried; so it is with the plain structs of `arrival`, `registers`, `snapshot` and `source`.
 
 // How the clock source is written.
 #[derive(Clone, Copy)]

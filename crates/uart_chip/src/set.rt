@@ -1,4 +1,4 @@
-// Sets of one kind of events, for every kind alike.
+// Sets of one kind of events, for every kind alike. `EnumSet` is the one implementation here; a set that is kept otherwise may be another.
 ghost use Rattle.std.specs.Prelude.{◌≡◌, Bool, false, ◌≢◌};
 ghost use Rattle.uart_chip.specs.Events.{holds};
 ghost use Rattle.uart_chip.specs.declared.event.Event.{Event};
@@ -21,6 +21,7 @@ pub trait EventSet: Sized {
     // the set of those events that are of the kind
     ghost part: { Events → Self };
 
+    // the two ways are methods of the trait and no `From`, so that the laws below can speak of them
     fn events(self) -> Events
         ensures { result ≡ members self };
 
