@@ -4,8 +4,8 @@ use Rattle.uart_chip.specs.declared.properties.SourceStyle.TheVariants.{Select}
 use Rattle.uart_chip.specs.declared.properties.StopRule.TheVariants.{ExtraStop}
 use Rattle.uart_chip.specs.declared.properties.TimeoutRule.TheVariants.{Symbols}
 use Rattle.uart_rate.specs.declared.config.ClockSource.{ClockSource}
+use Rattle.uart_rate.specs.Limits.{Limits}
 use Rattle.uart_rate.specs.declared.config.ClockSource.TheVariants.{Apb, RcFast, Xtal, RefTick}
-use Rattle.uart_rate.specs.declared.limits.Limits.{Limits}
 
 -- what the made-up chip states about itself
 abbrev pub fourth_limits : Limits

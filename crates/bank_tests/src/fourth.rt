@@ -1,10 +1,9 @@
 // A made-up chip, unlike the three: other numbers, other sources, an update and the extra stop bit together.
-ghost use Rattle.std.specs.Prelude.{◌≡◌};
-ghost use Rattle.uart_chip.specs.Steps.{source_code};
 ghost use Rattle.bank_tests.specs.Fourth.{fourth_limits, fourth_has, fourth_source, fourth_properties};
 ghost use Rattle.std.proofs.Common.{rules};
 
-use uart_banks::bank_core::Core;
+use uart_banks::bank::Bank;
+use uart_banks::codes::source_code;
 use uart_banks::steps::Steps;
 use uart_chip::at_cmd::AtCmdConfig;
 use uart_chip::field::Field;
@@ -13,7 +12,6 @@ use uart_chip::properties::{Properties, SourceStyle, StopRule, TimeoutRule};
 use uart_chip::wire::Wire;
 use uart_rate::config::{ClockSource, StopBits};
 use uart_rate::generator::BaudGenerator;
-use uart_rate::limits::Limits;
 
 #[derive(Clone, Copy)]
 pub struct Fourth;
@@ -25,98 +23,71 @@ impl BaudGenerator for Fourth {
 
     const I: u32 = 63;
 
-    ghost limits = { fourth_limits };
+    const DEFAULT_SOURCE: ClockSource = ClockSource::Xtal;
+
+    ghost Q = { fourth_limits.q };
+
+    ghost P = { fourth_limits.p };
+
+    ghost I = { fourth_limits.i };
+
+    ghost DEFAULT_SOURCE = { fourth_source };
 
     ghost has = { fourth_has };
-
-    ghost default = { fourth_source };
 
     ghost ranges = { Prim.search rules };
 
     ghost present = { Prim.search rules };
 
-    fn limits() -> Limits {
-        Limits {
-            q: Self::Q,
-            p: Self::P,
-            i: Self::I,
-        }
-    }
-
     fn has_source(source: ClockSource) -> bool {
-        match source {
-            ClockSource::Xtal | ClockSource::RefTick => true,
-            ClockSource::Apb | ClockSource::RcFast => false,
-        }
-    }
-
-    fn default_source() -> ClockSource {
-        ClockSource::Xtal
+        matches!(source, ClockSource::Xtal | ClockSource::RefTick)
     }
 }
 
 impl ChipKind for Fourth {
-    ghost properties = { fourth_properties };
+    ghost PROPERTIES = { fourth_properties };
 
-    fn properties() -> Properties {
-        Properties {
-            source_style: SourceStyle::Select,
-            stop_rule: StopRule::ExtraStop,
-            timeout_rule: TimeoutRule::Symbols,
-            has_fast_clock: false,
-            has_gate: false,
-            has_update: true,
-            updates_framing: true,
-        }
-    }
-}
-
-// The code of a clock source.
-fn code_of(source: ClockSource) -> u32
-    ensures { result ≡ source_code source }
-{
-    match source {
-        ClockSource::Apb => 1,
-        ClockSource::RcFast => 2,
-        ClockSource::Xtal => 3,
-        ClockSource::RefTick => 0,
-    }
+    const PROPERTIES: Properties = Properties {
+        source_style: SourceStyle::Select,
+        stop_rule: StopRule::ExtraStop,
+        timeout_rule: TimeoutRule::Symbols,
+        has_fast_clock: false,
+        has_gate: false,
+        has_update: true,
+        updates_framing: true,
+    };
 }
 
 impl Steps for Fourth {
-    fn write_clock<W: Wire>(core: &mut Core<W>, source: ClockSource, prescaler: u16) {
-        core.write(true, Field::SclkSel, code_of(source));
-        core.write(
-            true,
-            Field::SclkDivNum,
-            u32::from(prescaler).saturating_sub(1),
-        );
-        core.write(true, Field::SclkDivA, 0);
-        core.write(true, Field::SclkDivB, 0);
+    fn write_clock<W: Wire>(bank: &mut Bank<Self, W>, source: ClockSource, prescaler: u16) {
+        bank.write(Field::SclkSel, source_code(source));
+        bank.write(Field::SclkDivNum, u32::from(prescaler).saturating_sub(1));
+        bank.write(Field::SclkDivA, 0);
+        bank.write(Field::SclkDivB, 0);
     }
 
-    fn write_stop<W: Wire>(core: &mut Core<W>, stop: StopBits) {
-        if let StopBits::_2 = stop {
-            core.write(true, Field::Dl1En, 1);
-            core.write(true, Field::StopBitNum, 1);
+    fn write_stop<W: Wire>(bank: &mut Bank<Self, W>, stop: StopBits) {
+        if stop == StopBits::_2 {
+            bank.write(Field::Dl1En, 1);
+            bank.write(Field::StopBitNum, 1);
         }
     }
 
-    fn write_timeout<W: Wire>(core: &mut Core<W>, timeout: Option<u8>) {
+    fn write_timeout<W: Wire>(bank: &mut Bank<Self, W>, timeout: Option<u8>) {
         match timeout {
             Some(symbols) => {
-                core.write(true, Field::RxToutThrhd, u32::from(symbols));
-                core.write(true, Field::RxToutEn, 1);
+                bank.write(Field::RxToutThrhd, u32::from(symbols));
+                bank.write(Field::RxToutEn, 1);
             }
-            None => core.write(true, Field::RxToutEn, 0),
+            None => bank.write(Field::RxToutEn, 0),
         }
     }
 
-    fn write_at_cmd<W: Wire>(core: &mut Core<W>, config: AtCmdConfig) {
-        core.write(true, Field::AtCmdChar, u32::from(config.cmd_char));
-        core.write(true, Field::CharNum, u32::from(config.char_num));
-        core.write_given(true, Field::PreIdleNum, config.pre_idle_count);
-        core.write_given(true, Field::PostIdleNum, config.post_idle_count);
-        core.write_given(true, Field::RxGapTout, config.gap_timeout);
+    fn write_at_cmd<W: Wire>(bank: &mut Bank<Self, W>, config: AtCmdConfig) {
+        bank.write(Field::AtCmdChar, u32::from(config.cmd_char));
+        bank.write(Field::CharNum, u32::from(config.char_num));
+        bank.write_given(Field::PreIdleNum, config.pre_idle_count);
+        bank.write_given(Field::PostIdleNum, config.post_idle_count);
+        bank.write_given(Field::RxGapTout, config.gap_timeout);
     }
 }

@@ -1,43 +1,96 @@
 -- Lists of writes, one after the other.
-use Rattle.std.proofs.Common.{◌≡◌, ℕ, Bool, true, false, cond, eqb, List, [], ◌∷◌, ◌++◌, get_or, sym, refl, ap, ◌∙◌, eqb-true}
+use Rattle.std.proofs.Common.{◌≡◌, ℕ, Bool, true, false, ◌||◌, cond, arith, List, [], ◌∷◌, ◌++◌, None, sym, refl, ap, ◌∙◌}
+use Rattle.std.proofs.lemmas.Bool.Decides.{nat_tests}
+use Rattle.std.proofs.lemmas.Grind.{common_steps}
 use mathlib.Core.Path.{fun_ext}
-use borrow.Author.Tests.{eqb-false}
-use Rattle.uart_chip.specs.Fields.{index_of, line, put}
+use Rattle.uart_banks.specs.Banks.{MakesWrites}
+use Rattle.uart_banks.specs.Cores.{core_meaning, core_rest}
+use Rattle.uart_banks.specs.Gates.{Puts}
+use Rattle.uart_chip.proofs.Writes.{put_all_append, written_all_append}
+use Rattle.uart_banks.specs.declared.bank.Bank.{Bank}
+use Rattle.uart_chip.specs.Device.{Rest, with_rest}
+use Rattle.uart_chip.specs.Fields.{line, put}
 use Rattle.uart_chip.specs.Registers.{value_of}
-use Rattle.uart_chip.specs.Steps.{Writes, written_all}
+use Rattle.uart_chip.specs.Steps.{Writes, written_all, after_writes, given, at_cmd_writes, put_all}
+use Rattle.uart_chip.specs.declared.at_cmd.AtCmdConfig.{AtCmdConfig}
 use Rattle.uart_chip.specs.declared.field.Field.{Field}
-use Rattle.uart_chip.specs.declared.field.Field.TheVariants.{SclkEn}
-use Rattle.uart_banks.specs.Gates.{put_all, Puts}
-
-puts-++ : (xs ys : Writes) (fs : Field → ℕ) → put_all (xs ++ ys) fs ≡ put_all ys (put_all xs fs)
-puts-++ [] ys fs = refl
-puts-++ (a ∷ xs) ys fs = puts-++ xs ys (put a.0 a.1 fs)
-
-pub then : (xs ys : Writes) (vs us ws : List ℕ) → Puts xs vs us → Puts ys us ws → Puts (xs ++ ys) vs ws
-then xs ys vs us ws a b = λ e. b e ∙ (ap (put_all ys) (a e) ∙ sym (puts-++ xs ys (value_of (record { sclk_en = e; values = vs }))))
+use Rattle.uart_chip.specs.declared.field.Field.TheVariants.{SclkEn, AtCmdChar, CharNum, PreIdleNum, PostIdleNum, RxGapTout}
+use Rattle.uart_chip.specs.declared.wire.Wire.{Ghosts}
 
 same : {X : Type 0} (b : Bool) (x : X) → cond b x x ≡ x
 same true x = refl
 same false x = refl
 
--- once a line field was written, more writes change the fields alone
-pub settled : (ws : Writes) (fs : Field → ℕ) (ds : ℕ → ℕ) →
-    written_all true ws (record { fields = fs; waiting = true; standing = 0; delays = ds }) ≡ record { fields = put_all ws fs; waiting = true; standing = 0; delays = ds }
-settled [] fs ds = refl
-settled (w ∷ ws) fs ds = rw (same {X = Bool} (line w.0) true, same {X = ℕ} (line w.0) 0) (settled ws (put w.0 w.1 fs) ds)
+-- writes after writes are one list of writes
+pub then_writes : {K W : Type 0} {g : Ghosts W} {u : Bool} {xs ys : Writes} {a b c : Bank K W} → MakesWrites g u xs a b → MakesWrites g u ys b c → MakesWrites g u (xs ++ ys) a c
+then_writes {g = g} {u = u} {xs = xs} {ys = ys} {a = a} p q = record {
+  core = q.core ∙ (ap (after_writes u ys) p.core ∙ ap (λ (r : Rest). with_rest r (core_meaning g a.core)) (sym (written_all_append u xs ys (core_rest g a.core))));
+  kind = q.kind ∙ p.kind;
+}
 
-gate_by : (x y v : ℕ) (m : ℕ) (b c : Bool) → eqb m 4 ≡ b → eqb 4 m ≡ c → cond b y v ≡ cond c y (cond b x v)
-gate_by x y v m true true p q = refl
-gate_by x y v m true false p q = absurd (eqb-false 4 m q (sym (eqb-true m 4 p)))
-gate_by x y v m false true p q = absurd (eqb-false m 4 p (sym (eqb-true 4 m q)))
-gate_by x y v m false false p q = refl
+-- the same for values beside the gate
+pub then_puts : {xs ys : Writes} {vs us ws : List ℕ} → Puts xs vs us → Puts ys us ws → Puts (xs ++ ys) vs ws
+then_puts {xs = xs} {ys = ys} {vs = vs} a b = record {
+  fields = λ e. b.fields e ∙ (ap (put_all ys) (a.fields e) ∙ sym (put_all_append xs ys (value_of (record { sclk_en = e; values = vs }))));
+}
+
+pub no_puts : {vs : List ℕ} → Puts [] vs vs
+no_puts = record { fields = λ e. refl }
+
+-- once a line field was written, more writes change the fields alone
+settled : (u m : Bool) → cond u true m ≡ m → (ws : Writes) (fs : Field → ℕ) (ds : ℕ → ℕ) →
+    written_all u ws (record { fields = fs; waiting = m; standing = 0; delays = ds }) ≡ record { fields = put_all ws fs; waiting = m; standing = 0; delays = ds }
+settled u m h [] fs ds = refl
+settled u m h (a ∷ ws) fs ds = rw (h, same {X = Bool} (line a.0) m, same {X = ℕ} (line a.0) 0) (settled u m h ws (put a.0 a.1 fs) ds)
 
 -- a write of the clock gate puts it
-pub gate_put : (x y : ℕ) (vs : List ℕ) → value_of (record { sclk_en = y; values = vs }) ≡ put SclkEn y (value_of (record { sclk_en = x; values = vs }))
-gate_put x y vs = fun_ext (λ f. gate_by x y (get_or vs (index_of f) 0) (index_of f) (eqb (index_of f) 4) (eqb 4 (index_of f)) refl refl)
+gate_put : (x y : ℕ) (vs : List ℕ) → value_of (record { sclk_en = y; values = vs }) ≡ put SclkEn y (value_of (record { sclk_en = x; values = vs }))
+gate_put x y vs = fun_ext (λ f. grind (arith, nat_tests))
 
 -- the gate shut, other fields written, and the gate opened
-pub gated : (x : ℕ) (ws : Writes) (vs us : List ℕ) → Puts ws vs us →
+gated : (x : ℕ) (ws : Writes) (vs us : List ℕ) → Puts ws vs us →
     value_of (record { sclk_en = 1; values = us }) ≡ put_all (ws ++ ((SclkEn, 1) ∷ [])) (put SclkEn 0 (value_of (record { sclk_en = x; values = vs })))
 gated x ws vs us p =
-    gate_put 0 1 us ∙ (ap (put SclkEn 1) (p 0 ∙ ap (put_all ws) (gate_put x 0 vs)) ∙ sym (puts-++ ws ((SclkEn, 1) ∷ []) (put SclkEn 0 (value_of (record { sclk_en = x; values = vs })))))
+    gate_put 0 1 us ∙ (ap (put SclkEn 1) (p.fields 0 ∙ ap (put_all ws) (gate_put x 0 vs)) ∙ sym (put_all_append ws ((SclkEn, 1) ∷ []) (put SclkEn 0 (value_of (record { sclk_en = x; values = vs })))))
+
+marked : (u w : Bool) → (w || u) ≡ cond u true w
+marked u w = grind (arith, common_steps)
+
+marked_twice : (u w : Bool) → cond u true (cond u true w) ≡ cond u true w
+marked_twice u w = grind (arith, common_steps)
+
+-- the writes of an AT command beside the gate, and then the gate's
+opened : (o p q r : Writes) → (p ++ (q ++ (r ++ []))) ++ o ≡ p ++ (q ++ (r ++ o))
+opened o p q r = grind (arith, common_steps)
+
+-- the writes of an AT command with the gate shut, on a bank
+pub gated_writes : {K W : Type 0} {g : Ghosts W} {u : Bool} {us : List ℕ} (b : Bank K W) (c : AtCmdConfig) → Puts (at_cmd_writes false c) b.core.registers.values us →
+    MakesWrites g u (at_cmd_writes true c) b (record {
+      kind = b.kind;
+      core = record {
+        wire = b.core.wire;
+        raw = b.core.raw;
+        enabled = b.core.enabled;
+        count = b.core.count;
+        registers = record { sclk_en = 1; values = us };
+        waiting = b.core.waiting || u;
+        standing = None;
+      };
+    })
+gated_writes {g = g} {u = u} {us = us} b c p =
+    let before = core_meaning g b.core in
+    let first : Field × ℕ = (CharNum, c.char_num) in
+    let pre : Writes = given PreIdleNum c.pre_idle_count in
+    let post : Writes = given PostIdleNum c.post_idle_count in
+    let gap : Writes = given RxGapTout c.gap_timeout in
+    let open_up : Writes = (SclkEn, 1) ∷ [] in
+    let more : Writes = first ∷ (pre ++ (post ++ (gap ++ open_up))) in
+    let fs : Field → ℕ = put AtCmdChar c.cmd_char (put SclkEn 0 before.rest.fields) in
+    let fields = gated b.core.registers.sclk_en (at_cmd_writes false c) b.core.registers.values us p ∙ ap (λ (z : Writes). put_all (first ∷ z) fs) (opened open_up pre post gap) in
+    record {
+      core = ap (λ (r : Rest). with_rest r before) (
+          ap (λ (f : Field → ℕ). record { fields = f; waiting = b.core.waiting || u; standing = 0; delays = before.rest.delays }) fields ∙
+          (ap (λ (m : Bool). record { fields = put_all more fs; waiting = m; standing = 0; delays = before.rest.delays }) (marked u b.core.waiting) ∙
+          sym (settled u (cond u true b.core.waiting) (marked_twice u b.core.waiting) more fs before.rest.delays)));
+      kind = refl;
+    }

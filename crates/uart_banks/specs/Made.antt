@@ -1,4 +1,4 @@
-use Rattle.std.specs.Prelude.{◌≡◌, false, cond, ◌==◌}
+use Rattle.std.specs.Prelude.{◌≡◌, false, cond, ◌==◌, None}
 use Rattle.uart_banks.specs.declared.bank_core.Core.{Core}
 use Rattle.uart_chip.specs.Events.{none}
 use Rattle.uart_chip.specs.Fields.{index_of}
@@ -15,4 +15,4 @@ pub record Fresh {W : Type 0} (wire : W) (c : Core W) : Type 0 where
   pub count : c.count ≡ 0
   pub fields : (f : Field) → value_of c.registers f ≡ cond (index_of f == index_of SclkEn) 1 0
   pub waiting : c.waiting ≡ false
-  pub standing : c.standing ≡ 0
+  pub standing : c.standing ≡ None

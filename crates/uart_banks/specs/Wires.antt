@@ -1,4 +1,4 @@
-use Rattle.std.specs.Prelude.{ℕ, ◌-◌, ◌/◌, cond, List, length, nat_lt, slice_index}
+use Rattle.std.specs.Prelude.{ℕ, ◌-◌, ◌/◌, List, length, map, slice_index, slice_index_or}
 use Rattle.uart_chip.specs.Events.{none, numbered}
 use Rattle.uart_chip.specs.declared.arrival.Arrival.{Arrival}
 
@@ -16,7 +16,7 @@ arrival_of n = record { events = numbered n; bytes = n / 512 }
 
 -- the arrival at a place of a list; past its end no event, and the bytes that stay
 abbrev pub arrival_at : List ℕ → ℕ → ℕ → Arrival
-arrival_at xs last k = cond (nat_lt k (length xs)) (arrival_of (slice_index xs k)) (record { events = none; bytes = last })
+arrival_at xs last k = slice_index_or (map arrival_of xs) k (record { events = none; bytes = last })
 
 -- the bytes of the last arrival of a list, or 0 where it is empty
 abbrev pub last_count : List ℕ → ℕ

@@ -4,7 +4,7 @@ use uart_rate::esp32::Esp32;
 use uart_rate::esp32c3::Esp32c3;
 use uart_rate::esp32c6::Esp32c6;
 
-#[derive(Drop)]
+#[derive(Clone, Drop)]
 pub struct Bank<K, W> {
     pub kind: K,
     pub core: Core<W>,

@@ -2,7 +2,7 @@
 use uart_chip::events::Events;
 use uart_chip::registers::Registers;
 
-#[derive(Drop)]
+#[derive(Clone, Drop)]
 pub struct Core<W> {
     pub wire: W,
     pub raw: Events,
@@ -10,6 +10,6 @@ pub struct Core<W> {
     pub count: u16,
     pub registers: Registers,
     pub waiting: bool,
-    // 0: no update stands; n + 1: the next n reads say that it does
-    pub standing: u64,
+    // the update that stands, if one does: so many reads still say that it stands, and the one after them finds it done
+    pub standing: Option<u64>,
 }

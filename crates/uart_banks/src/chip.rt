@@ -2,7 +2,6 @@
 ghost use Rattle.uart_banks.specs.Cores.{core_rest};
 
 use super::bank::Bank;
-use super::bank_core::Core;
 use super::steps::Steps;
 use uart_chip::at_cmd::AtCmdConfig;
 use uart_chip::chip::Chip;
@@ -70,7 +69,7 @@ impl<K: Steps, W: Wire> Chip for Bank<K, W> {
     }
 
     fn write(&mut self, field: Field, value: u32) {
-        self.core.write(K::properties().has_update, field, value);
+        Bank::write(self, field, value);
     }
 
     fn request(&mut self) {
@@ -82,18 +81,18 @@ impl<K: Steps, W: Wire> Chip for Bank<K, W> {
     }
 
     fn write_clock(&mut self, source: ClockSource, prescaler: u16) {
-        K::write_clock(&mut self.core, source, prescaler);
+        K::write_clock(self, source, prescaler);
     }
 
     fn write_stop(&mut self, stop: StopBits) {
-        K::write_stop(&mut self.core, stop);
+        K::write_stop(self, stop);
     }
 
     fn write_timeout(&mut self, timeout: Option<u8>) {
-        K::write_timeout(&mut self.core, timeout);
+        K::write_timeout(self, timeout);
     }
 
     fn write_at_cmd(&mut self, config: AtCmdConfig) {
-        K::write_at_cmd(&mut self.core, config);
+        K::write_at_cmd(self, config);
     }
 }

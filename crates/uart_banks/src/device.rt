@@ -1,12 +1,10 @@
 // The device's functions on the common core, over any wire.
 ghost use Rattle.std.specs.Prelude.{◌≡◌, nat_lt};
-ghost use Rattle.uart_banks.specs.Cores.{core_meaning};
-ghost use Rattle.uart_chip.specs.Device.{looked, cleared, enabling, disabling, with_rest, written, requested, polled};
-ghost use Rattle.uart_chip.specs.Steps.{written_all, given};
+ghost use Rattle.uart_banks.specs.Cores.{core_meaning, reads_left};
+ghost use Rattle.uart_chip.specs.Device.{looked, cleared, enabling, disabling, with_rest, requested, polled};
 
 use super::bank_core::Core;
 use uart_chip::events::Events;
-use uart_chip::field::Field;
 use uart_chip::source::Look;
 use uart_chip::wire::Wire;
 
@@ -47,43 +45,29 @@ impl<W: Wire> Core<W> {
         self.enabled = self.enabled.without(events);
     }
 
-    // Gives a field a value. A line field cancels the update that stands; on a chip with an update it then waits for one.
-    pub fn write(&mut self, updates: bool, field: Field, value: u32)
-        ensures { core_meaning W.Wire self.new ≡ with_rest (written updates field value (core_meaning W.Wire self.old).rest) (core_meaning W.Wire self.old) }
-    {
-        self.registers.write(field, value);
-        if field.is_line() {
-            self.standing = 0;
-            self.waiting = self.waiting | updates;
-        }
-    }
-
-    // Gives a field a value, if one is given.
-    pub fn write_given(&mut self, updates: bool, field: Field, value: Option<u16>)
-        ensures { core_meaning W.Wire self.new ≡ with_rest (written_all updates (given field value) (core_meaning W.Wire self.old).rest) (core_meaning W.Wire self.old) }
-    {
-        if let Some(value) = value {
-            self.write(updates, field, u32::from(value));
-        }
-    }
-
     // Takes the next delay, and lets an update stand for so many reads.
     pub fn request(&mut self)
         ensures { core_meaning W.Wire self.new ≡ with_rest (requested (core_meaning W.Wire self.old).rest) (core_meaning W.Wire self.old) }
     {
-        self.standing = u64::from(self.wire.next_delay()) + 1;
+        self.standing = Some(u64::from(self.wire.next_delay()));
     }
 
     // Reads whether the update stands; the read that finds it done ends the waiting.
     pub fn stands(&mut self) -> bool
         ensures after { core_meaning W.Wire self.new ≡ with_rest (polled (core_meaning W.Wire self.old).rest) (core_meaning W.Wire self.old) }
-        ensures stands { result ≡ nat_lt 1 self.old.standing }
+        ensures stands { result ≡ nat_lt 1 (reads_left self.old.standing) }
     {
-        let stands = self.standing > 1;
-        if self.standing == 1 {
-            self.waiting = false;
+        match self.standing {
+            None => false,
+            Some(0) => {
+                self.standing = None;
+                self.waiting = false;
+                false
+            }
+            Some(reads) => {
+                self.standing = Some(reads - 1);
+                true
+            }
         }
-        self.standing = self.standing.saturating_sub(1);
-        stands
     }
 }

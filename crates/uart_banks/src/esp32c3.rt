@@ -1,33 +1,9 @@
-// The own ways of the ESP32-C3.
-use super::bank_core::Core;
-use super::selected::{
-    write_fast_clock, write_gated_at_cmd, write_selected_clock, write_stop_code, write_timeout_bits,
-};
-use super::steps::Steps;
-use uart_chip::at_cmd::AtCmdConfig;
-use uart_chip::wire::Wire;
-use uart_rate::config::{ClockSource, StopBits};
+// The own ways of the ESP32-C3: those of the selected chips, with a fast clock.
+ghost use Rattle.std.proofs.Common.{rules};
+
+use super::selected::Selected;
 use uart_rate::esp32c3::Esp32c3;
 
-impl Steps for Esp32c3 {
-    fn write_clock<W: Wire>(core: &mut Core<W>, source: ClockSource, prescaler: u16) {
-        match source {
-            ClockSource::RcFast => write_fast_clock(core, prescaler),
-            ClockSource::Apb => write_selected_clock(core, ClockSource::Apb, prescaler),
-            ClockSource::Xtal => write_selected_clock(core, ClockSource::Xtal, prescaler),
-            ClockSource::RefTick => write_selected_clock(core, ClockSource::RefTick, prescaler),
-        }
-    }
-
-    fn write_stop<W: Wire>(core: &mut Core<W>, stop: StopBits) {
-        write_stop_code(core, stop);
-    }
-
-    fn write_timeout<W: Wire>(core: &mut Core<W>, timeout: Option<u8>) {
-        write_timeout_bits(core, timeout);
-    }
-
-    fn write_at_cmd<W: Wire>(core: &mut Core<W>, config: AtCmdConfig) {
-        write_gated_at_cmd(core, config);
-    }
+impl Selected for Esp32c3 {
+    ghost stated = { Prim.search rules };
 }

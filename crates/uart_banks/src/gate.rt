@@ -1,7 +1,7 @@
 // The clock gate, shut for as long as a guard of it lives.
 ghost use Rattle.std.specs.Prelude.{◌≡◌};
 
-// While this lives the clock gate is shut; its end opens it.
+// While this lives the clock gate is shut; its end opens it. It borrows the plain gate field, so that nobody else has it meanwhile.
 pub struct ShutGate<'a> {
     gate: &'a mut u32,
 }

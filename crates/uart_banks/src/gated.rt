@@ -1,8 +1,7 @@
-// The at-command fields, written while the clock gate is shut.
-ghost use Rattle.std.specs.Prelude.{◌≡◌, [], ◌∷◌, ◌++◌, ◌≢◌};
+// The at-command fields, written while the clock gate is shut: through its guard, and so not by the bank's own `write`.
+ghost use Rattle.std.specs.Prelude.{◌≡◌, ◌≢◌, false, [], ◌∷◌};
 ghost use Rattle.uart_chip.specs.Fields.{index_of};
-ghost use Rattle.uart_chip.specs.Steps.{given};
-ghost use Rattle.uart_chip.specs.declared.field.Field.TheVariants.{AtCmdChar, CharNum, PreIdleNum, PostIdleNum, RxGapTout};
+ghost use Rattle.uart_chip.specs.Steps.{given, at_cmd_writes};
 ghost use Rattle.uart_banks.specs.Gates.{Puts};
 
 use super::gate::ShutGate;
@@ -33,7 +32,7 @@ impl ShutGate<'_> {
     // Writes what makes an AT command; the gate has to be shut.
     pub(crate) fn write_at_cmd(&self, values: &mut [u32; 36], config: AtCmdConfig)
         requires { self.now.gate.now ≡ 0 }
-        ensures { Puts ((AtCmdChar, config.cmd_char) ∷ (CharNum, config.char_num) ∷ (given PreIdleNum config.pre_idle_count ++ (given PostIdleNum config.post_idle_count ++ given RxGapTout config.gap_timeout))) values.old values.new }
+        ensures { Puts (at_cmd_writes false config) values.old values.new }
     {
         self.write(values, Field::AtCmdChar, u32::from(config.cmd_char));
         self.write(values, Field::CharNum, u32::from(config.char_num));

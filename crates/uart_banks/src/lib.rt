@@ -4,6 +4,7 @@
 pub mod bank;
 pub mod bank_core;
 pub mod chip;
+pub mod codes;
 pub mod device;
 pub mod esp32;
 pub mod esp32c3;
@@ -12,6 +13,7 @@ pub mod gate;
 pub mod gated;
 pub mod made;
 pub mod scripted;
-mod selected;
+pub mod selected;
 pub mod steady;
 pub mod steps;
+pub mod writes;

@@ -1,5 +1,5 @@
 // Making a bank.
-ghost use Rattle.std.specs.Prelude.{◌≡◌, false};
+ghost use Rattle.std.specs.Prelude.{◌≡◌};
 ghost use Rattle.uart_banks.specs.Made.{Fresh};
 
 use super::bank::Bank;
@@ -23,7 +23,7 @@ impl<K, W> Bank<K, W> {
             count: 0,
             registers,
             waiting: false,
-            standing: 0,
+            standing: None,
         };
         Bank { kind, core }
     }

@@ -7,56 +7,12 @@ use uart_chip::events::Events;
 use uart_chip::wire::Wire;
 
 // What is left of the two lists.
-#[derive(Clone, Copy)]
+#[derive(Clone, Copy, Debug, PartialEq, Eq, Hash)]
 pub struct Scripted<'a> {
     delays: &'a [u32],
     arrivals: &'a [u32],
     // the byte count of the last arrival of the whole list, which stays once the list is through
     last: u32,
-}
-
-// The first number of a list, or 0, and what is left of the list.
-fn take_delay<'a>(list: &'a [u32]) -> (u32, &'a [u32])
-    ensures value { result.0 ≡ delay_at list.now 0 }
-    ensures rest { delay_at result.1.now ≡ (λ k. delay_at list.now (k + 1)) }
-{
-    match list {
-        [] => (0, list),
-        [first, rest @ ..] => (*first, rest),
-    }
-}
-
-// The first arrival of a list, or none with the bytes that stay, and what is left of the list.
-fn take_arrival<'a>(list: &'a [u32], last: u32) -> (Arrival, &'a [u32])
-    ensures value { result.0 ≡ arrival_at list.now last 0 }
-    ensures rest { arrival_at result.1.now last ≡ (λ k. arrival_at list.now last (k + 1)) }
-{
-    match list {
-        [] => (
-            Arrival {
-                events: Events::none(),
-                bytes: last,
-            },
-            list,
-        ),
-        [first, rest @ ..] => (
-            Arrival {
-                events: Events::from_bits(*first),
-                bytes: *first / 512,
-            },
-            rest,
-        ),
-    }
-}
-
-// The bytes of the last arrival of a list, or 0.
-fn bytes_at_end(list: &[u32]) -> u32
-    ensures { result ≡ last_count list.now }
-{
-    if list.is_empty() {
-        return 0;
-    }
-    list[list.len() - 1] / 512
 }
 
 impl<'a> Scripted<'a> {
@@ -69,7 +25,7 @@ impl<'a> Scripted<'a> {
         Scripted {
             delays,
             arrivals,
-            last: bytes_at_end(arrivals),
+            last: arrivals.last().map_or(0, |number| number / 512),
         }
     }
 }
@@ -80,14 +36,28 @@ impl Wire for Scripted<'_> {
     ghost arrivals = { λ w. arrival_at w.arrivals.now w.last };
 
     fn next_delay(&mut self) -> u32 {
-        let (delay, rest) = take_delay(self.delays);
-        self.delays = rest;
-        delay
+        match self.delays.split_first() {
+            Some((&delay, rest)) => {
+                self.delays = rest;
+                delay
+            }
+            None => 0,
+        }
     }
 
     fn next_arrival(&mut self) -> Arrival {
-        let (arrival, rest) = take_arrival(self.arrivals, self.last);
-        self.arrivals = rest;
-        arrival
+        match self.arrivals.split_first() {
+            Some((&number, rest)) => {
+                self.arrivals = rest;
+                Arrival {
+                    events: Events::from_bits(number),
+                    bytes: number / 512,
+                }
+            }
+            None => Arrival {
+                events: Events::none(),
+                bytes: self.last,
+            },
+        }
     }
 }

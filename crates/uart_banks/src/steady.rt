@@ -6,7 +6,7 @@ use uart_chip::arrival::Arrival;
 use uart_chip::events::Events;
 use uart_chip::wire::Wire;
 
-#[derive(Clone, Copy)]
+#[derive(Clone, Copy, Debug, PartialEq, Eq, Hash)]
 pub struct Steady {
     pub delay: u32,
 }
