@@ -1,4 +1,3 @@
-pub mod Whole
-pub mod Recoveries
 pub mod Runs
 pub mod Tables
+pub mod Whole

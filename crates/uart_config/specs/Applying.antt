@@ -1,7 +1,7 @@
 use Rattle.std.specs.Prelude.{◌≡◌, ℕ, Bool, List, [], ◌∷◌, ◌++◌, None, Ok, Err, Result}
 use Rattle.uart_chip.specs.Device.{Rest, Meaning, cleared, disabling, with_rest}
 use Rattle.uart_chip.specs.Events.{those, every, without}
-use Rattle.uart_config.specs.Overlays.{put_all}
+use Rattle.uart_chip.specs.Steps.{put_all}
 use Rattle.uart_chip.specs.declared.field.Field.{Field}
 use Rattle.uart_chip.specs.declared.events.Events.{Events}
 use Rattle.uart_chip.specs.declared.properties.Properties.{Properties}
@@ -18,7 +18,7 @@ use Rattle.uart_rate.specs.declared.clocks.Clocks.{Clocks}
 use Rattle.uart_rate.specs.declared.config.ClockSource.{ClockSource}
 use Rattle.uart_rate.specs.declared.config.Config.{Config}
 use Rattle.uart_rate.specs.declared.divider.Divider.{Divider}
-use Rattle.uart_rate.specs.declared.limits.Limits.{Limits}
+use Rattle.uart_rate.specs.Limits.{Limits}
 use Rattle.uart_rate.specs.declared.refusal.Refusal.{Refusal}
 
 -- the fields once divider and framing are written, over the fields fs

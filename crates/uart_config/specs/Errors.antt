@@ -1,4 +1,4 @@
-use Rattle.std.specs.Prelude.{◌≡◌, ℕ, Bool, true, false, Ok, Err, Result, ◌≢◌}
+use Rattle.std.specs.Prelude.{◌≡◌, ℕ, Bool, true, false, List, codes, Ok, Err, Result, ◌≢◌}
 use Rattle.uart_chip.specs.Device.{Rest, Meaning, looked, cleared, with_rest}
 use Rattle.uart_chip.specs.Events.{holds, those}
 use Rattle.uart_chip.specs.declared.event.Event.{Event}
@@ -41,6 +41,13 @@ is_error_event event.FiFoEmpty = false
 
 abbrev pub error_events : Events
 error_events = those is_error_event
+
+-- what a person is told of each line error
+abbrev pub text_of : RxError → List ℕ
+text_of FifoOverflowed = codes "the receive FIFO overflowed"
+text_of GlitchOccurred = codes "there was a glitch on the line"
+text_of FrameFormatViolated = codes "a frame was not in its format"
+text_of ParityMismatch = codes "a parity bit was wrong"
 
 -- the refusal of each line error
 abbrev pub refusal_of : RxError → Refusal

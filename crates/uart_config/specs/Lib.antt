@@ -2,7 +2,6 @@ pub mod Applying
 pub mod Errors
 pub mod Faults
 pub mod Numbers
-pub mod Overlays
 pub mod Rows
 pub mod Runs
 pub mod Tables

@@ -1,6 +1,6 @@
 use Rattle.std.specs.Prelude.{ℕ, ◌*◌, Bool, true, false, cond, List, [], ◌∷◌, ◌++◌, Some, None, Option, nat_lt}
 use Rattle.uart_chip.specs.Steps.{Writes, clock_writes, stop_writes, timeout_writes, at_cmd_writes, symbol_length}
-use Rattle.uart_config.specs.Overlays.{put_all}
+use Rattle.uart_chip.specs.Steps.{put_all}
 use Rattle.uart_chip.specs.declared.at_cmd.AtCmdConfig.{AtCmdConfig}
 use Rattle.uart_chip.specs.declared.field.Field.{Field}
 use Rattle.uart_chip.specs.declared.field.Field.TheVariants as field
@@ -101,9 +101,26 @@ divider_rows x most c clk v = divider_row x most c v ∷ tolerance_row c clk v �
 abbrev pub framing_rows : Properties → Config → List Row
 framing_rows x c = record { step = Framing; refusal = None; writes = framing_writes x c; updates = x.updates_framing; off = [] } ∷ []
 
+-- the field with the fill at which a FIFO's event comes, and the refusal of a fill that it cannot have
+abbrev pub threshold_field : Fifo → Field
+threshold_field Rx = field.RxfifoFullThrhd
+threshold_field Tx = field.TxfifoEmptyThrhd
+
+abbrev pub threshold_refusal : Fifo → Refusal
+threshold_refusal Rx = RxFifoThresholdNotSupported
+threshold_refusal Tx = TxFifoThresholdNotSupported
+
+-- the step that sets a FIFO's threshold, and its row: 127 at the most
+abbrev pub threshold_step : Fifo → Step
+threshold_step Rx = Receive
+threshold_step Tx = Transmit
+
+abbrev pub fifo_threshold_row : Fifo → ℕ → Row
+fifo_threshold_row f n = plain_row (threshold_step f) (refuse_if (nat_lt 127 n) (threshold_refusal f)) ((threshold_field f, n) ∷ [])
+
 -- step 3: the receive threshold, then the timeout and an update
 abbrev pub threshold_row : ℕ → Row
-threshold_row n = plain_row Receive (refuse_if (nat_lt 127 n) RxFifoThresholdNotSupported) ((field.RxfifoFullThrhd, n) ∷ [])
+threshold_row n = fifo_threshold_row Rx n
 
 -- a timeout in symbols is at most 127; one in bits, by the length of a symbol as the fields fs have it, at most 1,023
 abbrev pub too_long : TimeoutRule → (Field → ℕ) → Option ℕ → Bool
@@ -131,7 +148,7 @@ reset_rows f k = on_row f k ∷ update_row k None ((reset_field f, 0) ∷ []) �
 
 -- step 5: the transmit threshold, and the transmit FIFO's reset
 abbrev pub tx_threshold_row : ℕ → Row
-tx_threshold_row n = plain_row Transmit (refuse_if (nat_lt 127 n) TxFifoThresholdNotSupported) ((field.TxfifoEmptyThrhd, n) ∷ [])
+tx_threshold_row n = fifo_threshold_row Tx n
 
 abbrev pub transmit_rows : TxConfig → List Row
 transmit_rows c = tx_threshold_row c.fifo_empty_threshold ∷ reset_rows Tx Transmit

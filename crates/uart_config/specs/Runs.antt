@@ -1,25 +1,18 @@
--- What the parts of a call do one after the other: for the proofs of inner functions. No public promise names these.
-use Rattle.std.specs.Prelude.{ℕ, ◌+◌, Bool, cond, List, [], ◌∷◌, Some, None, Ok, Err, Option, Result, nat_lt}
+-- What the parts of a call do one after the other: for the contracts of inner functions. No public promise names these.
+use Rattle.std.specs.Prelude.{◌≡◌, ℕ, ◌+◌, ◌*◌, ◌<◌, ◌≤◌, Bool, cond, List, [], ◌∷◌, length, Some, None, Ok, Err, Option, Result, nat_lt}
+use Rattle.std.specs.Result.{result_and}
 use Rattle.uart_chip.specs.Device.{Rest}
 use Rattle.uart_chip.specs.Steps.{Writes, written_all}
 use Rattle.uart_chip.specs.declared.properties.Properties.{Properties}
 use Rattle.uart_chip.specs.declared.source.EventSource.{Ghosts}
 use Rattle.uart_config.specs.Faults.{refusing, overdue}
-use Rattle.uart_config.specs.Rows.{divider_rows, framing_rows, receive_rows, reset_rows, transmit_rows, idle_writes}
 use Rattle.uart_config.specs.Tables.{Row}
-use Rattle.uart_config.specs.Uarts.{rest_of}
+use Rattle.uart_config.specs.Uarts.{Kept, rest_of}
 use Rattle.uart_config.specs.Updates.{settled, standing}
 use Rattle.uart_config.specs.declared.fault.Fault.{Fault}
-use Rattle.uart_config.specs.declared.fifo.Fifo.TheVariants.{Rx, Tx}
-use Rattle.uart_config.specs.declared.rx_error.RxError.{RxError}
-use Rattle.uart_config.specs.declared.rx_error.RxError.TheVariants as rx_error
 use Rattle.uart_config.specs.declared.step.Step.{Step}
-use Rattle.uart_config.specs.declared.step.Step.TheVariants.{RxReset, Transmit, ErrorReset}
 use Rattle.uart_config.specs.declared.uart.Uart.{Uart}
-use Rattle.uart_rate.specs.declared.config.Config.{Config}
-use Rattle.uart_rate.specs.declared.divider.Divider.{Divider as Division}
 use Rattle.uart_rate.specs.declared.refusal.Refusal.{Refusal}
-use Rattle.uart_rate.specs.declared.refusal.Refusal.TheVariants.{FifoOverflowed, GlitchOccurred, FrameFormatViolated, ParityMismatch}
 
 -- what a part of a call answers, and what it leaves
 pub record Out : Type 0 where
@@ -69,44 +62,17 @@ abbrev pub run : Bool → ℕ → List Row → ℕ → Rest → Out
 run has b [] n s = record { answer = Ok n; rest = s }
 run has b (r ∷ rs) n s = run_from has b r rs n s
 
--- rows carried out on a chip with its budget, in a call that polled n times before
-abbrev pub runs : {C : Type 0} → Ghosts C → Properties → List Row → ℕ → Uart C → Out
-runs g x rows n u = run x.has_update u.budget rows n (rest_of g u)
+-- what a call has answered that polled k times
+abbrev pub counted : {A : Type 0} → ℕ → Result A Fault → Result ℕ Fault
+counted k r = result_and r (Ok k)
 
-abbrev pub out : {C : Type 0} → Ghosts C → Result ℕ Fault → Uart C → Out
-out g r v = record { answer = r; rest = rest_of g v }
+-- the count of a call has room for the polls of rows: for each a budget, 65,535 at the most
+abbrev pub HasRoom : {C : Type 0} → List Row → Uart C → Type 0
+HasRoom rows u = u.reads + 65535 * length rows < 4294967296
 
--- the same as `run`, but shut: a step as a whole
-unfoldable pub stepped : Bool → ℕ → List Row → ℕ → Rest → Out
-stepped has b rows n s = run has b rows n s
-
-abbrev pub steps : {C : Type 0} → Ghosts C → Properties → List Row → ℕ → Uart C → Out
-steps g x rows n u = stepped x.has_update u.budget rows n (rest_of g u)
-
--- a configuration's five steps
-abbrev pub applied : Properties → ℕ → ℕ → Config → ℕ → Division → Rest → Out
-applied x most b c clk v s =
-    chain (stepped x.has_update b (divider_rows x most c clk v) 0 s) (λ k1 m1.
-    chain (stepped x.has_update b (framing_rows x c) k1 m1) (λ k2 m2.
-    chain (stepped x.has_update b (receive_rows x m2.fields c.rx) k2 m2) (λ k3 m3.
-    chain (stepped x.has_update b (reset_rows Rx RxReset) k3 m3) (λ k4 m4.
-    stepped x.has_update b (transmit_rows c.tx) k4 m4))))
-
--- the five steps, both resets again, idle time and error mask
-abbrev pub started : Properties → ℕ → ℕ → Config → ℕ → Division → Rest → Out
-started x most b c clk v s =
-    chain (applied x most b c clk v s) (λ k1 m1.
-    chain (stepped x.has_update b (reset_rows Rx RxReset) k1 m1) (λ k2 m2.
-    chain (stepped x.has_update b (reset_rows Tx Transmit) k2 m2) (λ k3 m3.
-    record { answer = Ok k3; rest = written_all x.has_update idle_writes m3 })))
-
--- a reset after an overflow
-abbrev pub overflowing : Result ℕ Fault → Result ℕ Fault
-overflowing (Ok k) = Err (refusing FifoOverflowed k)
-overflowing (Err f) = Err f
-
-abbrev pub recovered : Bool → ℕ → RxError → Rest → Out
-recovered has b rx_error.FifoOverflowed s = record { answer = overflowing (run has b (reset_rows Rx ErrorReset) 0 s).answer; rest = (run has b (reset_rows Rx ErrorReset) 0 s).rest }
-recovered has b rx_error.GlitchOccurred s = record { answer = Err (refusing GlitchOccurred 0); rest = s }
-recovered has b rx_error.FrameFormatViolated s = record { answer = Err (refusing FrameFormatViolated 0); rest = s }
-recovered has b rx_error.ParityMismatch s = record { answer = Err (refusing ParityMismatch 0); rest = s }
+-- Rows were carried out as far as they go, on a chip with its budget, in a call under way: what is answered and
+-- left, what is kept, and that they polled 65,535 times at the most for each.
+pub record Ran {C A : Type 0} (g : Ghosts C) (x : Properties) (rows : List Row) (u : Uart C) (r : Result A Fault) (v : Uart C) : Type 0 where
+  pub ran : run x.has_update u.budget rows u.reads (rest_of g u) ≡ record { answer = counted v.reads r; rest = rest_of g v }
+  pub kept : Kept g u v
+  pub few : v.reads ≤ u.reads + 65535 * length rows

@@ -2,7 +2,7 @@ use Rattle.std.specs.Prelude.{◌≡◌, ℕ, zero, suc, ◌+◌, ◌-◌, ◌<�
 use Rattle.uart_chip.specs.Device.{Rest}
 use Rattle.uart_chip.specs.Fields.{line}
 use Rattle.uart_chip.specs.Steps.{Writes}
-use Rattle.uart_config.specs.Overlays.{put_all}
+use Rattle.uart_chip.specs.Steps.{put_all}
 use Rattle.uart_config.specs.Faults.{refusing, overdue}
 use Rattle.uart_config.specs.declared.fault.Fault.{Fault}
 use Rattle.uart_config.specs.declared.step.Step.{Step}

@@ -1,7 +1,5 @@
 use Rattle.std.specs.Prelude.{◌≡◌}
 use Rattle.uart_chip.specs.Device.{Rest}
-use Rattle.uart_chip.specs.Steps.{Writes, written_all}
-use Rattle.uart_chip.specs.declared.properties.Properties.{Properties}
 use Rattle.uart_chip.specs.declared.source.EventSource.{Ghosts}
 use Rattle.uart_config.specs.declared.uart.Uart.{Uart}
 
@@ -9,11 +7,7 @@ use Rattle.uart_config.specs.declared.uart.Uart.{Uart}
 abbrev pub rest_of : {C : Type 0} → Ghosts C → Uart C → Rest
 rest_of g u = g.rest u.chip
 
--- the writes ws were made
-abbrev pub Wrote : {C : Type 0} → Ghosts C → Properties → Writes → Uart C → Uart C → Type 0
-Wrote g x ws u v = rest_of g v ≡ written_all x.has_update ws (rest_of g u)
-
--- all but the rest is as before: the budget, both event masks, the byte count and the arrivals to come
+-- what a call leaves as it was beside the rest: the budget, both event masks, the byte count and the arrivals to come
 pub record Kept {C : Type 0} (g : Ghosts C) (u v : Uart C) : Type 0 where
   pub budget : v.budget ≡ u.budget
   pub raw : g.raw v.chip ≡ g.raw u.chip

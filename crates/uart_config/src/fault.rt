@@ -5,7 +5,7 @@ ghost use Rattle.uart_config.specs.Faults.{refusing, overdue};
 use super::step::Step;
 use uart_rate::refusal::Refusal;
 
-#[derive(Clone, Copy)]
+#[derive(Clone, Copy, PartialEq, Eq, Debug)]
 pub struct Fault {
     pub refusal: Refusal,
     // the step whose update timed out; no other refusal names one
@@ -35,5 +35,14 @@ impl Fault {
             step: Some(step),
             reads,
         }
+    }
+}
+
+// A refusal before the first poll of a call.
+impl From<Refusal> for Fault {
+    ghost from_gives = { λ refusal fault. fault ≡ refusing refusal 0 };
+
+    fn from(refusal: Refusal) -> Fault {
+        Fault::refused(refusal, 0)
     }
 }

@@ -1,9 +1,8 @@
 // Step 2 of a configuration: data bits, parity, stop bits and flow control.
-ghost use Rattle.std.specs.Prelude.{◌≡◌, ℕ, ◌+◌, ◌≤◌, IfOk};
-ghost use Rattle.uart_chip.specs.Steps.{stop_writes};
+ghost use Rattle.std.specs.Prelude.{◌≡◌};
+ghost use Rattle.uart_chip.specs.Meanings.{Wrote};
 ghost use Rattle.uart_config.specs.Rows.{data_writes, parity_writes, sw_writes, cts_writes, rts_writes, framing_writes, framing_rows};
-ghost use Rattle.uart_config.specs.Runs.{Out, runs, out};
-ghost use Rattle.uart_config.specs.Uarts.{Kept, Wrote, rest_of};
+ghost use Rattle.uart_config.specs.Runs.{HasRoom, Ran};
 
 use super::fault::Fault;
 use super::step::Step;
@@ -14,120 +13,98 @@ use uart_chip::kind::ChipKind;
 use uart_chip::source::EventSource;
 use uart_rate::config::{Config, CtsConfig, DataBits, Parity, RtsConfig, SwFlowControl};
 
+// 5 to 8 data bits are 0 to 3.
+fn change_data_bits<C: Chip>(chip: &mut C, data_bits: DataBits)
+    ensures { Wrote C.EventSource C.Kind.ChipKind.PROPERTIES.has_update (data_writes data_bits) chip.old chip.new }
+{
+    chip.write(Field::BitNum, data_bits as u32);
+}
+
+// No parity keeps the field that tells odd from even.
+fn change_parity<C: Chip>(chip: &mut C, parity: Parity)
+    ensures { Wrote C.EventSource C.Kind.ChipKind.PROPERTIES.has_update (parity_writes parity) chip.old chip.new }
+{
+    // An arm for each parity shows what is written; a test and a flag are no plainer.
+    match parity {
+        Parity::None => chip.write(Field::ParityEn, 0),
+        Parity::Even => {
+            chip.write(Field::ParityEn, 1);
+            chip.write(Field::Parity, 0);
+        }
+        Parity::Odd => {
+            chip.write(Field::ParityEn, 1);
+            chip.write(Field::Parity, 1);
+        }
+    }
+}
+
+// Flow control by characters.
+fn change_sw_flow_control<C: Chip>(chip: &mut C, sw_flow_ctrl: SwFlowControl)
+    ensures { Wrote C.EventSource C.Kind.ChipKind.PROPERTIES.has_update (sw_writes sw_flow_ctrl) chip.old chip.new }
+{
+    match sw_flow_ctrl {
+        SwFlowControl::Enabled {
+            xon_char,
+            xoff_char,
+            xon_threshold,
+            xoff_threshold,
+        } => {
+            chip.write(Field::XonoffDel, 1);
+            chip.write(Field::SwFlowConEn, 1);
+            chip.write(Field::XonThreshold, u32::from(xon_threshold));
+            chip.write(Field::XoffThreshold, u32::from(xoff_threshold));
+            chip.write(Field::XonChar, u32::from(xon_char));
+            chip.write(Field::XoffChar, u32::from(xoff_char));
+        }
+        SwFlowControl::Disabled => {
+            chip.write(Field::SwFlowConEn, 0);
+            chip.write(Field::XonoffDel, 0);
+        }
+    }
+}
+
+fn change_cts<C: Chip>(chip: &mut C, cts: CtsConfig)
+    ensures { Wrote C.EventSource C.Kind.ChipKind.PROPERTIES.has_update (cts_writes cts) chip.old chip.new }
+{
+    chip.write(Field::TxFlowEn, u32::from(cts == CtsConfig::Enabled));
+}
+
+fn change_rts<C: Chip>(chip: &mut C, rts: RtsConfig)
+    ensures { Wrote C.EventSource C.Kind.ChipKind.PROPERTIES.has_update (rts_writes rts) chip.old chip.new }
+{
+    // An arm for each shows that the threshold goes before the flag, and that off keeps it; a test and a flag are no plainer.
+    match rts {
+        RtsConfig::Enabled(threshold) => {
+            chip.write(Field::RxFlowThrhd, u32::from(threshold));
+            chip.write(Field::RxFlowEn, 1);
+        }
+        RtsConfig::Disabled => chip.write(Field::RxFlowEn, 0),
+    }
+}
+
+// Writes framing and flow control.
+#[tactic(auto, using(uart_chip::proofs::Writes::written_all_append))]
+fn write_framing<C: Chip>(chip: &mut C, config: &Config)
+    ensures { Wrote C.EventSource C.Kind.ChipKind.PROPERTIES.has_update (framing_writes C.Kind.ChipKind.PROPERTIES config.now) chip.old chip.new }
+{
+    change_data_bits(chip, config.data_bits);
+    change_parity(chip, config.parity);
+    chip.write_stop(config.stop_bits);
+    change_sw_flow_control(chip, config.sw_flow_ctrl);
+    change_cts(chip, config.hw_flow_ctrl.cts);
+    change_rts(chip, config.hw_flow_ctrl.rts);
+}
+
 impl<C: Chip> Uart<C> {
-    fn change_data_bits(&mut self, data_bits: DataBits)
-        ensures wrote { Wrote C.EventSource C.Kind.ChipKind.properties (data_writes data_bits) self.old self.new }
-        ensures kept { Kept C.EventSource self.old self.new }
-    {
-        let code = match data_bits {
-            DataBits::_5 => 0,
-            DataBits::_6 => 1,
-            DataBits::_7 => 2,
-            DataBits::_8 => 3,
-        };
-        self.chip.write(Field::BitNum, code);
-    }
-
-    fn change_parity(&mut self, parity: Parity)
-        ensures wrote { Wrote C.EventSource C.Kind.ChipKind.properties (parity_writes parity) self.old self.new }
-        ensures kept { Kept C.EventSource self.old self.new }
-    {
-        match parity {
-            Parity::None => self.chip.write(Field::ParityEn, 0),
-            Parity::Even => {
-                self.chip.write(Field::ParityEn, 1);
-                self.chip.write(Field::Parity, 0);
-            }
-            Parity::Odd => {
-                self.chip.write(Field::ParityEn, 1);
-                self.chip.write(Field::Parity, 1);
-            }
-        }
-    }
-
-    // Flow control by characters.
-    fn change_sw_flow_control(&mut self, sw_flow_ctrl: SwFlowControl)
-        ensures wrote { Wrote C.EventSource C.Kind.ChipKind.properties (sw_writes sw_flow_ctrl) self.old self.new }
-        ensures kept { Kept C.EventSource self.old self.new }
-    {
-        match sw_flow_ctrl {
-            SwFlowControl::Enabled {
-                xon_char,
-                xoff_char,
-                xon_threshold,
-                xoff_threshold,
-            } => {
-                self.chip.write(Field::XonoffDel, 1);
-                self.chip.write(Field::SwFlowConEn, 1);
-                self.chip
-                    .write(Field::XonThreshold, u32::from(xon_threshold));
-                self.chip
-                    .write(Field::XoffThreshold, u32::from(xoff_threshold));
-                self.chip.write(Field::XonChar, u32::from(xon_char));
-                self.chip.write(Field::XoffChar, u32::from(xoff_char));
-            }
-            SwFlowControl::Disabled => {
-                self.chip.write(Field::SwFlowConEn, 0);
-                self.chip.write(Field::XonoffDel, 0);
-            }
-        }
-    }
-
-    fn change_cts(&mut self, cts: CtsConfig)
-        ensures wrote { Wrote C.EventSource C.Kind.ChipKind.properties (cts_writes cts) self.old self.new }
-        ensures kept { Kept C.EventSource self.old self.new }
-    {
-        match cts {
-            CtsConfig::Enabled => self.chip.write(Field::TxFlowEn, 1),
-            CtsConfig::Disabled => self.chip.write(Field::TxFlowEn, 0),
-        }
-    }
-
-    fn change_rts(&mut self, rts: RtsConfig)
-        ensures wrote { Wrote C.EventSource C.Kind.ChipKind.properties (rts_writes rts) self.old self.new }
-        ensures kept { Kept C.EventSource self.old self.new }
-    {
-        match rts {
-            RtsConfig::Enabled(threshold) => {
-                self.chip.write(Field::RxFlowThrhd, u32::from(threshold));
-                self.chip.write(Field::RxFlowEn, 1);
-            }
-            RtsConfig::Disabled => self.chip.write(Field::RxFlowEn, 0),
-        }
-    }
-
-    fn write_stop_bits(&mut self, config: &Config)
-        ensures wrote { Wrote C.EventSource C.Kind.ChipKind.properties (stop_writes C.Kind.ChipKind.properties.stop_rule config.now.stop_bits) self.old self.new }
-        ensures kept { Kept C.EventSource self.old self.new }
-    {
-        self.chip.write_stop(config.stop_bits);
-    }
-
-    // Writes framing and flow control.
-    fn write_framing(&mut self, config: &Config)
-        ensures wrote { Wrote C.EventSource C.Kind.ChipKind.properties (framing_writes C.Kind.ChipKind.properties config.now) self.old self.new }
-        ensures kept { Kept C.EventSource self.old self.new }
-    {
-        self.change_data_bits(config.data_bits);
-        self.change_parity(config.parity);
-        self.write_stop_bits(config);
-        self.change_sw_flow_control(config.sw_flow_ctrl);
-        self.change_cts(config.hw_flow_ctrl.cts);
-        self.change_rts(config.hw_flow_ctrl.rts);
-    }
-
     // Framing and flow control, with an update where the chip wants one.
-    pub(crate) fn change_framing(&mut self, config: &Config, before: u32) -> Result<u32, Fault>
-        requires { before ≤ 900000 }
-        ensures ran { runs C.EventSource C.Kind.ChipKind.properties (framing_rows C.Kind.ChipKind.properties config.now) before self.old ≡ out C.EventSource result self.new }
-        ensures kept { Kept C.EventSource self.old self.new }
-        ensures few { IfOk result (λ k. k ≤ before + 65535) }
+    pub(crate) fn change_framing(&mut self, config: &Config) -> Result<(), Fault>
+        requires { HasRoom (framing_rows C.Kind.ChipKind.PROPERTIES config.now) self.old }
+        ensures { Ran C.EventSource C.Kind.ChipKind.PROPERTIES (framing_rows C.Kind.ChipKind.PROPERTIES config.now) self.old result self.new }
     {
-        self.write_framing(config);
-        if C::Kind::properties().updates_framing {
-            self.update(Step::Framing, before)
-        } else {
-            Ok(before)
+        write_framing(&mut self.chip, config);
+        if !C::Kind::PROPERTIES.updates_framing {
+            return Ok(());
         }
+        self.update(Step::Framing)
     }
 }

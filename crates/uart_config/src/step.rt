@@ -2,22 +2,22 @@
 ghost use Rattle.std.specs.Prelude.{◌≡◌};
 ghost use Rattle.uart_config.specs.Numbers.{step_number};
 
-#[derive(Clone, Copy, PartialEq, Eq, Debug)]
+#[derive(Clone, Copy, PartialEq, Eq, Debug, Hash)]
 pub enum Step {
     // clock source, prescaler and divider
-    Divider,
+    Divider = 1,
     // data bits, parity, stop bits and flow control
-    Framing,
+    Framing = 2,
     // receive threshold and timeout
-    Receive,
+    Receive = 3,
     // the receive FIFO's reset in a configuration
-    RxReset,
+    RxReset = 4,
     // transmit threshold, and the transmit FIFO's reset
-    Transmit,
+    Transmit = 5,
     // what makes an AT command
-    AtCmd,
+    AtCmd = 6,
     // the receive FIFO's reset after an overflow
-    ErrorReset,
+    ErrorReset = 7,
 }
 
 impl Step {
@@ -25,14 +25,6 @@ impl Step {
     pub fn number(self) -> u8
         ensures { result ≡ step_number self }
     {
-        match self {
-            Step::Divider => 1,
-            Step::Framing => 2,
-            Step::Receive => 3,
-            Step::RxReset => 4,
-            Step::Transmit => 5,
-            Step::AtCmd => 6,
-            Step::ErrorReset => 7,
-        }
+        self as u8
     }
 }

@@ -1,9 +1,11 @@
-// A chip, and how often an update of it may be polled.
+// A chip, how often an update of it may be polled, and the polls of the call under way.
 ghost use Rattle.std.specs.Prelude.{◌≡◌, max};
 
 pub struct Uart<C> {
     pub chip: C,
     pub(crate) budget: u16,
+    // how often the call under way has polled, set to 0 before its first update; it stands here, so that the steps hand no number along
+    pub(crate) reads: u32,
 }
 
 impl<C> Uart<C> {
@@ -15,6 +17,7 @@ impl<C> Uart<C> {
         Uart {
             chip,
             budget: budget.max(1),
+            reads: 0,
         }
     }
 
@@ -22,7 +25,11 @@ impl<C> Uart<C> {
     pub fn into_chip(self) -> C
         ensures { result ≡ self.chip }
     {
-        let Uart { chip, budget: _ } = self;
+        let Uart {
+            chip,
+            budget: _,
+            reads: _,
+        } = self;
         chip
     }
 

@@ -1,7 +1,7 @@
 // An update: a request, and then polls until it is done or the budget is used up.
-ghost use Rattle.std.specs.Prelude.{◌≡◌, ℕ, ◌+◌, ◌≤◌, IfOk};
-ghost use Rattle.uart_config.specs.Runs.{Out, synced, out};
-ghost use Rattle.uart_config.specs.Uarts.{Kept, rest_of};
+ghost use Rattle.std.specs.Prelude.{[], ◌∷◌, None};
+ghost use Rattle.uart_config.specs.Rows.{update_row};
+ghost use Rattle.uart_config.specs.Runs.{HasRoom, Ran};
 
 use super::fault::Fault;
 use super::step::Step;
@@ -11,25 +11,21 @@ use uart_chip::kind::ChipKind;
 use uart_chip::source::EventSource;
 
 impl<C: Chip> Uart<C> {
-    // Lets the line fields take effect, in a call that has polled `before` times.
-    pub(crate) fn update(&mut self, step: Step, before: u32) -> Result<u32, Fault>
-        requires { before ≤ 1000000 }
-        ensures ran { synced C.Kind.ChipKind.properties.has_update self.old.budget step before (rest_of C.EventSource self.old) ≡ out C.EventSource result self.new }
-        ensures kept { Kept C.EventSource self.old self.new }
-        ensures few { IfOk result (λ k. k ≤ before + 65535) }
+    // Lets the line fields take effect.
+    pub(crate) fn update(&mut self, step: Step) -> Result<(), Fault>
+        requires { HasRoom (update_row step None [] ∷ []) self.old }
+        ensures { Ran C.EventSource C.Kind.ChipKind.PROPERTIES (update_row step None [] ∷ []) self.old result self.new }
     {
-        if !C::Kind::properties().has_update {
-            return Ok(before);
+        if !C::Kind::PROPERTIES.has_update {
+            return Ok(());
         }
         self.chip.request();
-        let budget = self.budget;
-        let mut reads: u16 = 0;
-        while reads < budget {
-            reads += 1;
+        for _ in 0..self.budget {
+            self.reads += 1;
             if !self.chip.stands() {
-                return Ok(before + u32::from(reads));
+                return Ok(());
             }
         }
-        Err(Fault::timed_out(step, before + u32::from(reads)))
+        Err(Fault::timed_out(step, self.reads))
     }
 }

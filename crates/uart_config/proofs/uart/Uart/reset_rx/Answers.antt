@@ -1,6 +1,0 @@
-use Rattle.uart_config.specs.Runs.{stepped}
-use Rattle.uart_config.proofs.uart.Uart.reset_rx.Goals as goal
-
-pub returns : goal.returns
-unfolding stepped
-returns g c = c.reset.ensures
