@@ -33,7 +33,7 @@ fn answer_on<G: BaudGenerator>(query: &Query) -> Result<Achieved, Refusal>
     achieve::<G>(&config, &clocks)
 }
 
-// Which rate the head gets, or why it gets none.
+// Which rate the head gets, or why it gets none. A query has its chip as a value and the rules have it as a type, so a `match` goes from one to the other; a table of functions would hold the same three instances, and would have to be searched.
 pub fn answer(query: &Query) -> Result<Achieved, Refusal>
     ensures { Answers query.now result }
 {

@@ -41,7 +41,7 @@ fn read_text(heap: Global, text: &[u8]) -> Result<Asked, AllocError>
     Ok(ask(&words))
 }
 
-// What the words of a line ask, up to a `#` or the line's end.
+// What the words of a line ask, up to a `#` or the line's end. Without the `?` and the `Ok` the goal stays open.
 pub fn read_line(heap: Global, line: &[u8]) -> Result<Asked, AllocError>
     ensures { IfOk result (LineRead line.now) }
 {

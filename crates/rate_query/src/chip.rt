@@ -13,7 +13,7 @@ pub enum ChipName {
 }
 
 impl ChipName {
-    // The word for the chip.
+    // The word for the chip, for who has no formatter; `Display` prints it.
     pub fn name(self) -> &'static str
         ensures { result.now ≡ name_of self }
     {
@@ -34,7 +34,7 @@ impl ChipName {
         }
     }
 
-    // The chip that a word names. A `TryFrom` would be no plainer: there is no more to say of a word that names none.
+    // The chip that a word names. A `TryFrom` would need an error of one case, which its one caller would turn into `ChipUnknown` at once.
     pub fn from_word(word: &[u8]) -> Option<ChipName>
         ensures { MatchOption result ((chip : ChipName) → word.now ≢ name_of chip) (λ chip. word.now ≡ name_of chip) }
     {

@@ -19,7 +19,7 @@ pub enum QueryError {
 }
 
 impl QueryError {
-    // What a person is told.
+    // What a person is told, for who has no formatter; `Display` prints it.
     pub fn text(self) -> &'static str
         ensures { result.now ≡ text_of self }
     {

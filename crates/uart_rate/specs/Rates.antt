@@ -26,6 +26,10 @@ divisor_of clk baud p = 16 * clk / (baud * p)
 abbrev pub sixteenths_of : Divider → ℕ
 sixteenths_of v = 16 * v.integer + v.fraction
 
+-- how many sixteenths of a clock tick there must be in a second for the divider to make the rate `baud`
+abbrev pub needed_of : ℕ → Divider → ℕ
+needed_of baud v = baud * v.prescaler * sixteenths_of v
+
 -- r is the whole part of n / m
 pub record WholePart (n m r : ℕ) : Type 0 where
   pub reached : r * m ≤ n

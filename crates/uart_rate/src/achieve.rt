@@ -15,7 +15,7 @@ use super::judge::judge;
 use super::refusal::Refusal;
 use super::request::Request;
 
-// A rate further above the baud rate than the tolerance allows is refused.
+// A rate further above the baud rate than the tolerance allows is refused. Clock and baud rate may be any numbers here, so they are no `Request`.
 pub fn judge_tolerance(
     tolerance: BaudrateTolerance,
     clk: u32,
@@ -51,7 +51,7 @@ fn run(q: u32, request: &Request, divider: Divider) -> Achieved
     }
 }
 
-// What the head gets from the divider of a configuration that was judged, if its rate is near enough.
+// What the head gets from the divider of a configuration that was judged, if its rate is near enough. Apart from `achieve`, so that it can ask for the judgement.
 fn settle<G: BaudGenerator>(
     config: &Config,
     clocks: &Clocks,

@@ -1,6 +1,6 @@
 // The arithmetic of the rate rules.
 ghost use Rattle.std.specs.Prelude.{◌≡◌, ℕ, ◌+◌, ◌-◌, ◌*◌, ◌/◌, ◌%◌, ◌^◌, ◌<◌, ◌≤◌, nat_lt};
-ghost use Rattle.uart_rate.specs.Rates.{LeastPrescaler, RateLaw, WholePart, sixteenths_of};
+ghost use Rattle.uart_rate.specs.Rates.{LeastPrescaler, RateLaw, WholePart, needed_of, sixteenths_of};
 
 use super::divider::Divider;
 use super::request::Request;
@@ -33,8 +33,8 @@ impl Request {
 
     // How far the rate is above the baud rate, in millionths of it.
     pub(crate) fn excess(&self, divider: Divider) -> u64
-        requires { self.now.baud * divider.prescaler * sixteenths_of divider ≤ 16 * self.now.clk }
-        ensures { WholePart (1000000 * (16 * self.now.clk - self.now.baud * divider.prescaler * sixteenths_of divider)) (self.now.baud * divider.prescaler * sixteenths_of divider) result }
+        requires { needed_of self.now.baud divider ≤ 16 * self.now.clk }
+        ensures { WholePart (1000000 * (16 * self.now.clk - needed_of self.now.baud divider)) (needed_of self.now.baud divider) result }
     {
         let needed = divider.needed(self.baud) as u64;
         whole_part(1_000_000 * (16 * u64::from(self.clk) - needed), needed)
@@ -66,7 +66,7 @@ impl Divider {
 
     // How many sixteenths of a clock tick there must be in a second for the rate to be `baud`.
     fn needed(&self, baud: u32) -> u128
-        ensures value { result ≡ baud * self.now.prescaler * sixteenths_of self.now }
+        ensures value { result ≡ needed_of baud self.now }
         ensures bound { result < 2 ^ 80 }
         ensures positive { 1 ≤ baud → 1 ≤ result }
     {
@@ -75,7 +75,7 @@ impl Divider {
 
     // Whether the divider's rate is more than so many percent above the baud rate; reckoned without a division, so that nothing is cut off.
     pub(crate) fn exceeds(&self, percent: u8, clk: u32, baud: u32) -> bool
-        ensures { result ≡ nat_lt ((100 + percent) * (baud * self.now.prescaler * sixteenths_of self.now)) (1600 * clk) }
+        ensures { result ≡ nat_lt ((100 + percent) * needed_of baud self.now) (1600 * clk) }
     {
         (100 + u128::from(percent)) * self.needed(baud) < 1600 * u128::from(clk)
     }

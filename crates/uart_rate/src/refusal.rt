@@ -32,7 +32,7 @@ impl Refusal {
         self as u8
     }
 
-    // The name that is printed behind the number.
+    // The name that is printed behind the number, for who has no formatter; `Display` prints it.
     pub fn name(self) -> &'static str
         ensures { result.now ≡ name_of_refusal self }
     {

@@ -36,7 +36,7 @@ enum Scan {
     Digits(usize),
     // A separator, and then a numeral of so many digits.
     Gap(usize),
-    // The end of no numeral.
+    // The end of no numeral. A state like the others: whatever comes before it leaves it so, and no `None` need end the scan early.
     Bad,
 }
 

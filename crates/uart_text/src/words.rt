@@ -50,7 +50,7 @@ fn cut_word(text: &[u8]) -> Option<(&[u8], &[u8])>
     Some(text.split_at(end))
 }
 
-// The words of a line that are left to read. It is `Copy`, as it was before it was an iterator.
+// The words of a line that are left to read. It is `Copy`, so that a caller can read on from a place twice.
 #[derive(Clone, Copy, Debug)]
 pub struct Words<'a> {
     rest: &'a [u8],
