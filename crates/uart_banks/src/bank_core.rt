@@ -1,4 +1,4 @@
-// What all banks have in common: a wire, the two event masks, the byte count, the register file, the waiting mark and the update that stands.
+// What all banks have in common: a wire, the raw and the enabled events, the byte count, the register file, the waiting mark and the update that stands.
 use uart_chip::events::Events;
 use uart_chip::registers::Registers;
 

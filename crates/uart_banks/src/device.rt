@@ -1,4 +1,4 @@
-// The device's functions on the common core, over any wire.
+// The device's functions on the common core, over any wire. They stand apart from a bank's, since they are the same for every kind of chip.
 ghost use Rattle.std.specs.Prelude.{◌≡◌, nat_lt};
 ghost use Rattle.uart_banks.specs.Cores.{core_meaning, reads_left};
 ghost use Rattle.uart_chip.specs.Device.{looked, cleared, enabling, disabling, with_rest, requested, polled};

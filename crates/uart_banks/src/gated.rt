@@ -1,8 +1,9 @@
-// The at-command fields, written while the clock gate is shut: through its guard, and so not by the bank's own `write`.
+// The at-command fields, written while the clock gate is shut. A rule of the project has the guard borrow the plain gate field, so the writes go through it and not by the bank's own `write`. That the gate is shut is asked each time: at the guard's end it is open, so the guard has no invariant that says it.
 ghost use Rattle.std.specs.Prelude.{◌≡◌, ◌≢◌, false, [], ◌∷◌};
 ghost use Rattle.uart_chip.specs.Fields.{index_of};
 ghost use Rattle.uart_chip.specs.Steps.{given, at_cmd_writes};
 ghost use Rattle.uart_banks.specs.Gates.{Puts};
+ghost use Rattle.uart_chip.specs.declared.field.Field.TheVariants.{SclkEn};
 
 use super::gate::ShutGate;
 use uart_chip::at_cmd::AtCmdConfig;
@@ -12,7 +13,7 @@ impl ShutGate<'_> {
     // Gives a field beside the gate a value; the gate has to be shut.
     fn write(&self, values: &mut [u32; 36], field: Field, value: u32)
         requires shut { self.now.gate.now ≡ 0 }
-        requires other { index_of field ≢ 4 }
+        requires other { index_of field ≢ index_of SclkEn }
         ensures { Puts ((field, value) ∷ []) values.old values.new }
     {
         values[field.index()] = value;
@@ -21,7 +22,7 @@ impl ShutGate<'_> {
     // The same, if a value is given.
     fn write_given(&self, values: &mut [u32; 36], field: Field, value: Option<u16>)
         requires shut { self.now.gate.now ≡ 0 }
-        requires other { index_of field ≢ 4 }
+        requires other { index_of field ≢ index_of SclkEn }
         ensures { Puts (given field value) values.old values.new }
     {
         if let Some(value) = value {

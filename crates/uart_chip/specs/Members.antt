@@ -95,8 +95,9 @@ back ParityError = refl
 back Done = refl
 back FiFoEmpty = refl
 
-pub number_of-injective : (a b : Event) → number_of a ≡ number_of b → a ≡ b
-number_of-injective a b e = sym (back a) ∙ (ap by_number e ∙ back b)
+-- what can be found again from its number is told apart by it
+pub told_apart : {X : Type 0} (number : X → ℕ) (found : ℕ → X) → ((x : X) → found (number x) ≡ x) → (x y : X) → number x ≡ number y → x ≡ y
+told_apart number found again x y e = sym (again x) ∙ (ap found e ∙ again y)
 
 -- the set of one event holds that event, and is within each set that does
 or_false : (b : Bool) → (b || false) ≡ b
@@ -108,4 +109,4 @@ holds-one a e = holds-those (λ x. list_any (λ y. number_of y == number_of x) (
 
 pub Within-one : (a : Event) (every : Events) → holds every a ≡ true → Within (among (a ∷ [])) every
 Within-one a every h e held =
-    subst (λ (x : Event). holds every x ≡ true) (number_of-injective a e (eqb-true (number_of a) (number_of e) (sym (holds-one a e) ∙ held))) h
+    subst (λ (x : Event). holds every x ≡ true) (told_apart number_of by_number back a e (eqb-true (number_of a) (number_of e) (sym (holds-one a e) ∙ held))) h

@@ -132,7 +132,7 @@ impl Events {
         Events::those(|event| (bits >> event.number()) % 2 == 1)
     }
 
-    // The number whose bits are the events of the set.
+    // The number whose bits are the events of the set; the way back of `from_bits`, and named like it.
     pub fn bits(self) -> u32
         ensures same { numbered result ≡ self }
         ensures range { result < 512 }

@@ -1,5 +1,5 @@
 // What a chip states about itself, where chips differ.
-// No code compares or prints these, and each further derive makes every check of the crate longer, which was tried; so it is with the plain structs of `arrival`, `registers`, `snapshot` and `source`.
+// No code compares or prints these or the structs of `arrival`, `registers`, `snapshot` and `source`. With the usual derives on all types of the crate a check of it took 102 s of processor time in place of 65 s, and each must-fail edit is a check.
 
 // How the clock source is written.
 #[derive(Clone, Copy)]

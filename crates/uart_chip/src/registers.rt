@@ -1,4 +1,5 @@
-// A register file with room for every field of every chip. The clock gate stands by itself, so that it can be lent while the others are written; its place in the array is idle.
+// A register file with room for every field of every chip. The clock gate stands by itself, since a rule of the project has a guard borrow the plain gate field while the others are written; its place in the array is idle.
+// No more is derived, for the time of a check: see `properties`.
 #[derive(Clone, Copy)]
 pub struct Registers {
     pub sclk_en: u32,

@@ -21,7 +21,7 @@ pub trait EventSet: Sized {
     // the set of those events that are of the kind
     ghost part: { Events → Self };
 
-    // the two ways are methods of the trait and no `From`, so that the laws below can speak of them
+    // the two ways are methods and no `From`, since what they give is said by the ghost members above, of which the laws below speak
     fn events(self) -> Events
         ensures { result ≡ members self };
 

@@ -7,6 +7,7 @@ use super::chip::Chip;
 use super::events::Events;
 use super::registers::Registers;
 
+// No more is derived, for the time of a check: see `properties`.
 #[derive(Clone, Copy)]
 pub struct Snapshot {
     pub registers: Registers,
@@ -17,7 +18,7 @@ pub struct Snapshot {
 }
 
 impl Snapshot {
-    // What a chip shows: its fields, both masks, the byte count and the waiting mark.
+    // What a chip shows: its fields, the raw and the enabled events, the byte count and the waiting mark.
     pub fn of<C: Chip>(chip: &C) -> Snapshot
         ensures fields { value_of result.registers ≡ (meaning C.EventSource chip.now).rest.fields }
         ensures raw { result.raw ≡ (meaning C.EventSource chip.now).raw }

@@ -7,6 +7,7 @@ ghost use Rattle.uart_chip.specs.declared.events.Events.{Events};
 use super::events::Events;
 
 // The raw events and the byte count that a look leaves.
+// No more is derived, for the time of a check: see `properties`.
 #[derive(Clone, Copy)]
 pub struct Look {
     pub raw: Events,
