@@ -8,7 +8,7 @@ use Rattle.uart_config.specs.Faults.{overdue}
 use Rattle.uart_chip.specs.declared.properties.Properties.{Properties}
 use Rattle.uart_chip.specs.declared.source.EventSource.{Ghosts}
 use Rattle.uart_config.specs.Runs.{Out, onward, chain, synced, falling, tested, run_row, run_from, run, counted, Ran}
-use Rattle.uart_config.specs.Uarts.{Kept, rest_of}
+use Rattle.uart_config.specs.Uarts.{ChangesRest, Kept, rest_of}
 use Rattle.uart_config.specs.declared.uart.Uart.{Uart}
 use Rattle.uart_config.specs.Tables.{Row, writes_of, Carried, to_the_end, to_a_refusal, to_a_time_out}
 use Rattle.uart_config.specs.Updates.{settled, standing}
@@ -92,6 +92,20 @@ pub ran_carried : {C A : Type 0} {g : Ghosts C} {x : Properties} {rows : List Ro
 ran_carried {C} {A} {g} {x} {rows} {u} {v} {r} {a} p e =
     subst (λ (o : Out). Carries x.has_update u.budget rows u.reads o (rest_of g u)) (p.ran ∙ ap (λ (z : Result ℕ Fault). record { answer = z; rest = rest_of g v }) (sym e))
     (run_carried x.has_update u.budget rows u.reads (rest_of g u))
+
+-- the table of a part of a call that ends with a fault, which the call passes on
+pub ran_failed : {C A : Type 0} {g : Ghosts C} {x : Properties} {rows : List Row} {u v : Uart C} {f : Fault} {a : Result ℕ Fault} →
+    Ran {A = A} g x rows u (Err f) v → IsErrAnd a (λ e. e ≡ f) → Carried x.has_update u.budget rows u.reads a (rest_of g u) (rest_of g v)
+ran_failed {C} {A} {g} {x} {rows} {u} {v} {f} {a} p e = ran_carried p (is_err f a e)
+
+-- what a call keeps that has set its count to 0
+pub kept_by_call : {C : Type 0} {g : Ghosts C} {u v : Uart C} → Kept g (record u { reads = 0 }) v → Kept g u v
+kept_by_call k = record { budget = k.budget; raw = k.raw; enabled = k.enabled; count = k.count; arrivals = k.arrivals }
+
+-- a call whose one part ends with a fault, which the call passes on
+pub call_failed : {C A : Type 0} {g : Ghosts C} {x : Properties} {rows : List Row} {u v : Uart C} {f : Fault} {a : Result ℕ Fault} →
+    Ran {A = A} g x rows (record u { reads = 0 }) (Err f) v → IsErrAnd a (λ e. e ≡ f) → ChangesRest g (Carried x.has_update u.budget rows 0 a) u v
+call_failed p e = record { rest = ran_failed p e; kept = kept_by_call p.kept }
 
 -- the fields that a part of a call leaves, if it comes to its end
 pub ran_fields : {C A : Type 0} {g : Ghosts C} {x : Properties} {rows : List Row} {u v : Uart C} {y : A} →

@@ -24,11 +24,12 @@ ran_framed {C} {A} {B} {D} {g} {x} most clk c v {u} {u1} {u2} {u3} {y} {z} {r} p
     ran_then p (ran_then q (subst (λ (fs : Field → ℕ). Ran g x (receive_rows x fs c.rx) u2 r u3)
     (ran_fields q ∙ ap (put_all (writes_of (framing_rows x c))) (ran_fields p)) t))
 
--- the writing of an init, for a clock and from a state and to a state that are known under other names
-pub starts : {C A : Type 0} {g : Ghosts C} {x : Properties} (most : ℕ) (c : Config) (v : Divider) {clk clk2 : ℕ} {u w : Uart C} {r : Result A Fault} {a : Result ℕ Fault} {s t : Rest} →
-    Ran g x (init_rows x most (rest_of g u).fields c clk v) u r w → a ≡ counted w.reads r → clk ≡ clk2 → rest_of g u ≡ s → rest_of g w ≡ t →
-    Carried x.has_update u.budget (init_rows x most s.fields c clk2 v) u.reads a s t
-starts {C} {A} {g} {x} most c v {clk} {clk2} {u} {w} {r} {a} {s} {t} p e q i j =
-    subst (λ (z : ℕ). Carried x.has_update u.budget (init_rows x most s.fields c z v) u.reads a s t) q
+-- the writing of an init, for a configuration and a clock and from a state and to a state that are known under other names
+pub starts : {C A : Type 0} {g : Ghosts C} {x : Properties} (most : ℕ) (v : Divider) {c c2 : Config} {clk clk2 : ℕ} {u w : Uart C} {r : Result A Fault} {a : Result ℕ Fault} {s t : Rest} →
+    Ran g x (init_rows x most (rest_of g u).fields c clk v) u r w → a ≡ counted w.reads r → c ≡ c2 → clk ≡ clk2 → rest_of g u ≡ s → rest_of g w ≡ t →
+    Carried x.has_update u.budget (init_rows x most s.fields c2 clk2 v) u.reads a s t
+starts {C} {A} {g} {x} most v {c} {c2} {clk} {clk2} {u} {w} {r} {a} {s} {t} p e k q i j =
+    subst (λ (y : Config). Carried x.has_update u.budget (init_rows x most s.fields y clk2 v) u.reads a s t) k
+    (subst (λ (z : ℕ). Carried x.has_update u.budget (init_rows x most s.fields c z v) u.reads a s t) q
     (subst (λ (z : Rest). Carried x.has_update u.budget (init_rows x most z.fields c clk v) u.reads a z t) i
-    (subst (λ (z : Rest). Carried x.has_update u.budget (init_rows x most (rest_of g u).fields c clk v) u.reads a (rest_of g u) z) j (ran_carried p e)))
+    (subst (λ (z : Rest). Carried x.has_update u.budget (init_rows x most (rest_of g u).fields c clk v) u.reads a (rest_of g u) z) j (ran_carried p e))))

@@ -1,6 +1,7 @@
 pub mod Applying
 pub mod Errors
 pub mod Faults
+pub mod Judging
 pub mod Numbers
 pub mod Rows
 pub mod Runs

@@ -4,6 +4,9 @@ use Rattle.uart_rate.specs.declared.config.BaudrateTolerance.TheVariants.{Closes
 use Rattle.uart_rate.specs.declared.divider.Divider.{Divider}
 use Rattle.uart_rate.specs.Rates.{sixteenths_of}
 
+-- These are uart_rate's `MoreThanPercent` and `TooFast` as tests: a row holds a refusal or none, and a proposition
+-- cannot choose between the two.
+
 -- the rate of a divider is more than so many percent above the one asked for, as a test
 abbrev pub more_than_percent : ℕ → ℕ → ℕ → Divider → Bool
 more_than_percent n clk baud v = nat_lt ((100 + n) * (baud * v.prescaler * sixteenths_of v)) (1600 * clk)

@@ -1,12 +1,13 @@
 // A configuration's writing, all five steps.
 ghost use Rattle.std.specs.Prelude.{◌≡◌};
 ghost use Rattle.uart_config.specs.Applying.{apply_rows, Applies};
-ghost use Rattle.uart_config.specs.Runs.{HasRoom, Ran};
-ghost use Rattle.uart_config.specs.Uarts.{Kept, rest_of};
+ghost use Rattle.uart_config.specs.Runs.{Ran};
+ghost use Rattle.uart_config.specs.Uarts.{ChangesRest, rest_of};
 ghost use Rattle.uart_rate.specs.Stated.{limits};
 
 use super::fault::Fault;
 use super::fifo::Fifo;
+use super::judged::Judged;
 use super::step::Step;
 use super::uart::Uart;
 use uart_chip::chip::Chip;
@@ -14,22 +15,16 @@ use uart_chip::kind::ChipKind;
 use uart_chip::source::EventSource;
 use uart_rate::clocks::Clocks;
 use uart_rate::config::Config;
-use uart_rate::divider::Divider;
 use uart_rate::generator::BaudGenerator;
-use uart_rate::judge::judge;
 
 impl<C: Chip> Uart<C> {
-    // The five steps of a configuration whose divider is known.
-    pub(crate) fn configure(
-        &mut self,
-        config: &Config,
-        clk: u32,
-        divider: Divider,
-    ) -> Result<(), Fault>
+    // The five steps of a configuration that was judged.
+    pub(crate) fn configure(&mut self, judged: &Judged) -> Result<(), Fault>
         requires { self.old.reads ≡ 0 }
-        ensures { Ran C.EventSource C.Kind.ChipKind.PROPERTIES (apply_rows C.Kind.ChipKind.PROPERTIES C.Kind.BaudGenerator.P (rest_of C.EventSource self.old).fields config.now clk divider) self.old result self.new }
+        ensures { Ran C.EventSource C.Kind.ChipKind.PROPERTIES (apply_rows C.Kind.ChipKind.PROPERTIES C.Kind.BaudGenerator.P (rest_of C.EventSource self.old).fields judged.now.config.now judged.now.clk judged.now.divider) self.old result self.new }
     {
-        self.change_baud(config, clk, divider)?;
+        let config = judged.config;
+        self.change_baud(judged)?;
         self.change_framing(config)?;
         self.configure_rx(&config.rx)?;
         self.reset(Fifo::Rx, Step::RxReset)?;
@@ -38,12 +33,11 @@ impl<C: Chip> Uart<C> {
 
     // Puts a configuration in force, as far as it goes.
     pub fn apply_config(&mut self, config: &Config, clocks: &Clocks) -> Result<u32, Fault>
-        ensures applies { Applies (limits C.Kind.BaudGenerator) C.Kind.BaudGenerator.has C.Kind.ChipKind.PROPERTIES self.old.budget config.now clocks.now result (rest_of C.EventSource self.old) (rest_of C.EventSource self.new) }
-        ensures kept { Kept C.EventSource self.old self.new }
+        ensures { ChangesRest C.EventSource (Applies (limits C.Kind.BaudGenerator) C.Kind.BaudGenerator.has C.Kind.ChipKind.PROPERTIES self.old.budget config.now clocks.now result) self.old self.new }
     {
-        let divider = judge::<C::Kind>(config, clocks)?;
+        let judged = Judged::new::<C::Kind>(config, clocks)?;
         self.reads = 0;
-        self.configure(config, clocks.hertz(config.clock_source), divider)
-            .and(Ok(self.reads))
+        self.configure(&judged)?;
+        Ok(self.reads)
     }
 }

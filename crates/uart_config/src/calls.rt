@@ -3,7 +3,7 @@ ghost use Rattle.std.specs.Prelude.{[], ◌∷◌};
 ghost use Rattle.uart_config.specs.Rows.{threshold_row, timeout_row, at_cmd_rows};
 ghost use Rattle.uart_config.specs.Runs.{HasRoom, Ran};
 ghost use Rattle.uart_config.specs.Tables.{Carried};
-ghost use Rattle.uart_config.specs.Uarts.{Kept, rest_of};
+ghost use Rattle.uart_config.specs.Uarts.{ChangesRest, rest_of};
 
 use super::fault::Fault;
 use super::fifo::Fifo;
@@ -17,21 +17,20 @@ use uart_chip::source::EventSource;
 impl<C: Chip> Uart<C> {
     // Sets the fill of the receive FIFO for `FifoFull`.
     pub fn set_rx_fifo_full_threshold(&mut self, threshold: u16) -> Result<u32, Fault>
-        ensures carried { Carried C.Kind.ChipKind.PROPERTIES.has_update self.old.budget (threshold_row threshold ∷ []) 0 result (rest_of C.EventSource self.old) (rest_of C.EventSource self.new) }
-        ensures kept { Kept C.EventSource self.old self.new }
+        ensures { ChangesRest C.EventSource (Carried C.Kind.ChipKind.PROPERTIES.has_update self.old.budget (threshold_row threshold ∷ []) 0 result) self.old self.new }
     {
         self.reads = 0;
-        self.change_threshold(Fifo::Rx, threshold)
-            .and(Ok(self.reads))
+        self.change_threshold(Fifo::Rx, threshold)?;
+        Ok(self.reads)
     }
 
     // Sets the receive timeout, or that there is none.
     pub fn set_rx_timeout(&mut self, timeout: Option<u8>) -> Result<u32, Fault>
-        ensures carried { Carried C.Kind.ChipKind.PROPERTIES.has_update self.old.budget (timeout_row C.Kind.ChipKind.PROPERTIES (rest_of C.EventSource self.old).fields timeout ∷ []) 0 result (rest_of C.EventSource self.old) (rest_of C.EventSource self.new) }
-        ensures kept { Kept C.EventSource self.old self.new }
+        ensures { ChangesRest C.EventSource (Carried C.Kind.ChipKind.PROPERTIES.has_update self.old.budget (timeout_row C.Kind.ChipKind.PROPERTIES (rest_of C.EventSource self.old).fields timeout ∷ []) 0 result) self.old self.new }
     {
         self.reads = 0;
-        self.change_rx_timeout(timeout).and(Ok(self.reads))
+        self.change_rx_timeout(timeout)?;
+        Ok(self.reads)
     }
 
     // What makes an AT command, and an update.
@@ -45,10 +44,10 @@ impl<C: Chip> Uart<C> {
 
     // Sets what makes an AT command.
     pub fn set_at_cmd(&mut self, config: AtCmdConfig) -> Result<u32, Fault>
-        ensures carried { Carried C.Kind.ChipKind.PROPERTIES.has_update self.old.budget (at_cmd_rows C.Kind.ChipKind.PROPERTIES config) 0 result (rest_of C.EventSource self.old) (rest_of C.EventSource self.new) }
-        ensures kept { Kept C.EventSource self.old self.new }
+        ensures { ChangesRest C.EventSource (Carried C.Kind.ChipKind.PROPERTIES.has_update self.old.budget (at_cmd_rows C.Kind.ChipKind.PROPERTIES config) 0 result) self.old self.new }
     {
         self.reads = 0;
-        self.change_at_cmd(config).and(Ok(self.reads))
+        self.change_at_cmd(config)?;
+        Ok(self.reads)
     }
 }

@@ -2,7 +2,7 @@
 ghost use Rattle.std.specs.Prelude.{◌≡◌};
 ghost use Rattle.uart_chip.specs.Meanings.{meaning};
 ghost use Rattle.uart_config.specs.Errors.{error_events, Recovers, Checks};
-ghost use Rattle.uart_config.specs.Uarts.{Kept, rest_of};
+ghost use Rattle.uart_config.specs.Uarts.{ChangesRest};
 
 use super::fault::Fault;
 use super::fifo::Fifo;
@@ -31,8 +31,7 @@ fn error_events() -> Events
 impl<C: Chip> Uart<C> {
     // What follows a line error, and the fault to answer: after an overflow the receive FIFO is reset.
     pub fn recover(&mut self, error: RxError) -> Fault
-        ensures recovers { Recovers C.Kind.ChipKind.PROPERTIES.has_update self.old.budget error result (rest_of C.EventSource self.old) (rest_of C.EventSource self.new) }
-        ensures kept { Kept C.EventSource self.old self.new }
+        ensures { ChangesRest C.EventSource (Recovers C.Kind.ChipKind.PROPERTIES.has_update self.old.budget error result) self.old self.new }
     {
         if error != RxError::FifoOverflowed {
             return Fault::refused(error.into(), 0);

@@ -1,14 +1,16 @@
 // Why a call failed, and how often it polled an update until then.
-ghost use Rattle.std.specs.Prelude.{◌≡◌};
-ghost use Rattle.uart_config.specs.Faults.{refusing, overdue};
+ghost use Rattle.std.specs.Prelude.{◌≡◌, Some};
+ghost use Rattle.uart_config.specs.Faults.{refusing, overdue, fault_text};
 
 use super::step::Step;
+use std::error::Error;
+use std::fmt;
 use uart_rate::refusal::Refusal;
 
-#[derive(Clone, Copy, PartialEq, Eq, Debug)]
+#[derive(Clone, Copy, PartialEq, Eq, Debug, Hash)]
 pub struct Fault {
     pub refusal: Refusal,
-    // the step whose update timed out; no other refusal names one
+    // the step whose update timed out; no other refusal names one. A reply has a number, a step and the reads, so all three stand side by side, and no enum of two cases
     pub step: Option<Step>,
     // all polls of the call
     pub reads: u32,
@@ -37,6 +39,26 @@ impl Fault {
         }
     }
 }
+
+// What a person is told.
+impl fmt::Display for Fault {
+    ghost output = { λ fault. Some (fault_text fault) };
+
+    fn fmt<W: fmt::Write>(&self, f: &mut fmt::Formatter<W>) -> fmt::Result {
+        let Fault {
+            refusal,
+            step,
+            reads,
+        } = *self;
+        let Some(step) = step else {
+            return write!(f, "{refusal} after {reads} reads");
+        };
+        let number = step.number();
+        write!(f, "{refusal} in step {number} after {reads} reads")
+    }
+}
+
+impl Error for Fault {}
 
 // A refusal before the first poll of a call.
 impl From<Refusal> for Fault {

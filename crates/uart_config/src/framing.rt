@@ -1,5 +1,4 @@
 // Step 2 of a configuration: data bits, parity, stop bits and flow control.
-ghost use Rattle.std.specs.Prelude.{◌≡◌};
 ghost use Rattle.uart_chip.specs.Meanings.{Wrote};
 ghost use Rattle.uart_config.specs.Rows.{data_writes, parity_writes, sw_writes, cts_writes, rts_writes, framing_writes, framing_rows};
 ghost use Rattle.uart_config.specs.Runs.{HasRoom, Ran};

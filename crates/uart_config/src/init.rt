@@ -3,13 +3,14 @@ ghost use Rattle.std.specs.Prelude.{◌≡◌, [], ◌∷◌, None, Ok};
 ghost use Rattle.uart_chip.specs.Meanings.{meaning};
 ghost use Rattle.uart_config.specs.Applying.{first_cleared, prepared, init_rows, Inits};
 ghost use Rattle.uart_config.specs.Rows.{plain_row, idle_writes};
-ghost use Rattle.uart_config.specs.Runs.{HasRoom, Ran};
+ghost use Rattle.uart_config.specs.Runs.{Ran};
 ghost use Rattle.uart_config.specs.Uarts.{rest_of};
 ghost use Rattle.uart_config.specs.declared.step.Step.TheVariants.{Transmit};
 ghost use Rattle.uart_rate.specs.Stated.{limits};
 
 use super::fault::Fault;
 use super::fifo::Fifo;
+use super::judged::Judged;
 use super::step::Step;
 use super::uart::Uart;
 use uart_chip::chip::Chip;
@@ -19,9 +20,7 @@ use uart_chip::kind::ChipKind;
 use uart_chip::source::EventSource;
 use uart_rate::clocks::Clocks;
 use uart_rate::config::Config;
-use uart_rate::divider::Divider;
 use uart_rate::generator::BaudGenerator;
-use uart_rate::judge::judge;
 
 // The events that an init clears first: all but glitch, framing and parity errors.
 fn first_cleared() -> Events
@@ -53,11 +52,11 @@ impl<C: Chip> Uart<C> {
     }
 
     // The writing of an init.
-    fn start(&mut self, config: &Config, clk: u32, divider: Divider) -> Result<(), Fault>
+    fn start(&mut self, judged: &Judged) -> Result<(), Fault>
         requires { self.old.reads ≡ 0 }
-        ensures { Ran C.EventSource C.Kind.ChipKind.PROPERTIES (init_rows C.Kind.ChipKind.PROPERTIES C.Kind.BaudGenerator.P (rest_of C.EventSource self.old).fields config.now clk divider) self.old result self.new }
+        ensures { Ran C.EventSource C.Kind.ChipKind.PROPERTIES (init_rows C.Kind.ChipKind.PROPERTIES C.Kind.BaudGenerator.P (rest_of C.EventSource self.old).fields judged.now.config.now judged.now.clk judged.now.divider) self.old result self.new }
     {
-        self.configure(config, clk, divider)?;
+        self.configure(judged)?;
         self.reset(Fifo::Rx, Step::RxReset)?;
         self.reset(Fifo::Tx, Step::Transmit)?;
         self.write_idle_and_mask();
@@ -70,9 +69,9 @@ impl<C: Chip> Uart<C> {
         ensures budget { self.new.budget ≡ self.old.budget }
     {
         disable_interrupts(&mut self.chip);
-        let divider = judge::<C::Kind>(config, clocks)?;
+        let judged = Judged::new::<C::Kind>(config, clocks)?;
         self.reads = 0;
-        self.start(config, clocks.hertz(config.clock_source), divider)?;
+        self.start(&judged)?;
         self.chip.clear(Events::all());
         Ok(self.reads)
     }

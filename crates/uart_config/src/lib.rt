@@ -9,6 +9,7 @@ pub mod fault;
 pub mod fifo;
 pub mod framing;
 pub mod init;
+mod judged;
 pub mod receive;
 pub mod reset;
 pub mod rx_error;

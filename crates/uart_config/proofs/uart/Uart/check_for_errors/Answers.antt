@@ -17,5 +17,5 @@ returns-clause-checks g c =
     let t : Rest = rest_of g.C.EventSource c.recover.new.self in
     error e f
     (subst (λ (es : Events). FirstError es (Err e)) (c.look-look.ensures.raw ∙ ap (λ (m : Meaning). m.raw) seen) c.in-Err.ensures) refl
-    (subst (λ (s : Rest). Recovers g.C.Kind.ChipKind.PROPERTIES.has_update c.args.self.now.budget e f s t) (ap (λ (m : Meaning). m.rest) (quiet ∙ ap (cleared error_events) seen)) c.recover.ensures.recovers)
+    (subst (λ (s : Rest). Recovers g.C.Kind.ChipKind.PROPERTIES.has_update c.args.self.now.budget e f s t) (ap (λ (m : Meaning). m.rest) (quiet ∙ ap (cleared error_events) seen)) c.recover.ensures.rest)
     (search rules)

@@ -1,5 +1,5 @@
-use Rattle.uart_config.proofs.Runs.{ran_carried}
+use Rattle.uart_config.proofs.Runs.{call_failed}
 use Rattle.uart_config.proofs.uart.Uart.set_at_cmd.Goals as goal
 
-pub returns-clause-carried : goal.returns-clause-carried
-returns-clause-carried g c = ran_carried c.change_at_cmd.ensures c.and.ensures
+pub returns-in_err-change_at_cmd : goal.returns-in_err-change_at_cmd
+returns-in_err-change_at_cmd g c = call_failed c.in_err-change_at_cmd.ensures c.from_residual.ensures.1

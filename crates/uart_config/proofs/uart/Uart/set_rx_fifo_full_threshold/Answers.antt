@@ -1,5 +1,5 @@
-use Rattle.uart_config.proofs.Runs.{ran_carried}
+use Rattle.uart_config.proofs.Runs.{call_failed}
 use Rattle.uart_config.proofs.uart.Uart.set_rx_fifo_full_threshold.Goals as goal
 
-pub returns-clause-carried : goal.returns-clause-carried
-returns-clause-carried g c = ran_carried c.change_threshold.ensures c.and.ensures
+pub returns-in_err-change_threshold : goal.returns-in_err-change_threshold
+returns-in_err-change_threshold g c = call_failed c.in_err-change_threshold.ensures c.from_residual.ensures.1

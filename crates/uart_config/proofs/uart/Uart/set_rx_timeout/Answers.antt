@@ -1,5 +1,5 @@
-use Rattle.uart_config.proofs.Runs.{ran_carried}
+use Rattle.uart_config.proofs.Runs.{call_failed}
 use Rattle.uart_config.proofs.uart.Uart.set_rx_timeout.Goals as goal
 
-pub returns-clause-carried : goal.returns-clause-carried
-returns-clause-carried g c = ran_carried c.change_rx_timeout.ensures c.and.ensures
+pub returns-in_err-change_rx_timeout : goal.returns-in_err-change_rx_timeout
+returns-in_err-change_rx_timeout g c = call_failed c.in_err-change_rx_timeout.ensures c.from_residual.ensures.1
