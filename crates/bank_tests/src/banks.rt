@@ -17,15 +17,8 @@ use uart_rate::esp32c3::Esp32c3;
 use uart_rate::esp32c6::Esp32c6;
 
 // How many reads say that an update stands, up to ten.
-fn standing<C: Chip>(chip: &mut C) -> u32 {
-    let mut reads = 0u32;
-    for _ in 0..10 {
-        if !chip.stands() {
-            break;
-        }
-        reads = reads.saturating_add(1);
-    }
-    reads
+fn standing<C: Chip>(chip: &mut C) -> usize {
+    (0..10u32).take_while(|_| chip.stands()).count()
 }
 
 // Updates with delays 0, 1 and 3, and one past the end. `marks`: the chip has an update.

@@ -47,7 +47,7 @@ fn answer_input(rt: &(impl AllocGlobal + Eprint + Input + Print)) -> io::Result<
     let mut out = BufWriter::new(rt.alloc(), io::writer(rt))?;
     let mut line: Vec<u8> = Vec::new(rt.alloc());
     let mut all_read = true;
-    // Lines are read into one buffer, and each has a number, so this is no iterator over lines.
+    // An iterator over lines would be no plainer: each line is read into the one buffer, and its number is told with a mistake.
     for number in 1..u64::MAX {
         // Before the program waits for input it writes its answers, so whoever types queries sees each answer at once; a file's answers are written in blocks.
         if !input.buffer().contains(&b'\n') {

@@ -7,13 +7,13 @@ use uart_rate::esp32c3::Esp32c3;
 use uart_rate::esp32c6::Esp32c6;
 use uart_rate::generator::BaudGenerator;
 
-// Prescaler, divider and rate, or 0, 0 and the refusal's number.
+// Prescaler, divider and rate, or the refusal's number.
 fn outcome<G: BaudGenerator>(
     source: ClockSource,
     clk: u32,
     baud: u32,
     tolerance: BaudrateTolerance,
-) -> (u16, u64, u32) {
+) -> Result<(u16, u64, u32), u8> {
     let mut config = Config::from_source(source);
     config.baudrate = baud;
     config.baudrate_tolerance = tolerance;
@@ -24,20 +24,20 @@ fn outcome<G: BaudGenerator>(
         ref_tick: clk,
     };
     match achieve::<G>(&config, &clocks) {
-        Ok(achieved) => (
+        Ok(achieved) => Ok((
             achieved.divider.prescaler,
             achieved.divider.sixteenths(),
             achieved.rate,
-        ),
-        Err(refusal) => (0, 0, u32::from(refusal.number())),
+        )),
+        Err(refusal) => Err(refusal.number()),
     }
 }
 
-fn closest<G: BaudGenerator>(clk: u32, baud: u32) -> (u16, u64, u32) {
+fn closest<G: BaudGenerator>(clk: u32, baud: u32) -> Result<(u16, u64, u32), u8> {
     outcome::<G>(G::DEFAULT_SOURCE, clk, baud, BaudrateTolerance::Closest)
 }
 
-fn percent<G: BaudGenerator>(n: u8) -> (u16, u64, u32) {
+fn percent<G: BaudGenerator>(n: u8) -> Result<(u16, u64, u32), u8> {
     outcome::<G>(
         G::DEFAULT_SOURCE,
         1_000_000,
@@ -48,52 +48,67 @@ fn percent<G: BaudGenerator>(n: u8) -> (u16, u64, u32) {
 
 #[test]
 fn baud_rates_at_their_limits(rt: HostRuntime) {
-    assert_eq!(rt; closest::<Esp32c3>(80_000_000, 0), (0, 0, 2));
-    assert_eq!(rt; closest::<Esp32c3>(1, 1), (1, 16, 1));
-    assert_eq!(rt; closest::<Esp32>(80_000_000, 1), (0, 0, 4));
-    assert_eq!(rt; closest::<Esp32c3>(80_000_000, 77), (254, 65_446, 77));
-    assert_eq!(rt; closest::<Esp32c3>(80_000_000, 76), (0, 0, 4));
-    assert_eq!(rt; closest::<Esp32>(80_000_000, 77), (1, 16_623_376, 77));
-    assert_eq!(rt; closest::<Esp32>(80_000_000, 76), (0, 0, 4));
+    assert_eq!(rt; closest::<Esp32c3>(80_000_000, 0), Err(2));
+    assert_eq!(rt; closest::<Esp32c3>(1, 1), Ok((1, 16, 1)));
+    assert_eq!(rt; closest::<Esp32>(80_000_000, 1), Err(4));
+    assert_eq!(rt; closest::<Esp32c3>(80_000_000, 77), Ok((254, 65_446, 77)));
+    assert_eq!(rt; closest::<Esp32c3>(80_000_000, 76), Err(4));
+    assert_eq!(rt; closest::<Esp32>(80_000_000, 77), Ok((1, 16_623_376, 77)));
+    assert_eq!(rt; closest::<Esp32>(80_000_000, 76), Err(4));
     assert_eq!(rt;
         closest::<Esp32c6>(80_000_000, 5_000_000),
-        (1, 256, 5_000_000)
+        Ok((1, 256, 5_000_000))
     );
-    assert_eq!(rt; closest::<Esp32c6>(80_000_000, 5_000_001), (0, 0, 2));
+    assert_eq!(rt; closest::<Esp32c6>(80_000_000, 5_000_001), Err(2));
 }
 
 #[test]
 fn clocks_at_their_limits(rt: HostRuntime) {
-    assert_eq!(rt; closest::<Esp32>(0, 5_000_000), (0, 0, 3));
-    assert_eq!(rt; closest::<Esp32>(1, 5_000_000), (0, 0, 4));
-    assert_eq!(rt; closest::<Esp32>(312_499, 5_000_000), (0, 0, 4));
-    assert_eq!(rt; closest::<Esp32>(312_500, 5_000_000), (1, 1, 5_000_000));
-    assert_eq!(rt; closest::<Esp32c3>(39_302_400, 9_600), (1, 65_504, 9_600));
-    assert_eq!(rt; closest::<Esp32c3>(39_302_401, 9_600), (2, 32_752, 9_600));
+    assert_eq!(rt; closest::<Esp32>(0, 5_000_000), Err(3));
+    assert_eq!(rt; closest::<Esp32>(1, 5_000_000), Err(4));
+    assert_eq!(rt; closest::<Esp32>(312_499, 5_000_000), Err(4));
+    assert_eq!(rt; closest::<Esp32>(312_500, 5_000_000), Ok((1, 1, 5_000_000)));
+    assert_eq!(rt;
+        closest::<Esp32c3>(39_302_400, 9_600),
+        Ok((1, 65_504, 9_600))
+    );
+    assert_eq!(rt;
+        closest::<Esp32c3>(39_302_401, 9_600),
+        Ok((2, 32_752, 9_600))
+    );
     assert_eq!(rt;
         closest::<Esp32>(268_435_455, 5_000_000),
-        (1, 858, 5_005_789)
+        Ok((1, 858, 5_005_789))
     );
-    assert_eq!(rt; closest::<Esp32>(268_435_456, 5_000_000), (0, 0, 3));
+    assert_eq!(rt; closest::<Esp32>(268_435_456, 5_000_000), Err(3));
 }
 
 // With 256 baud the prescaler grows with each 1,048,064 hertz.
 #[test]
 fn the_largest_prescaler(rt: HostRuntime) {
-    assert_eq!(rt; closest::<Esp32c3>(267_256_320, 256), (255, 65_504, 256));
-    assert_eq!(rt; closest::<Esp32c3>(267_256_321, 256), (256, 65_248, 256));
-    assert_eq!(rt; closest::<Esp32c3>(268_304_384, 256), (256, 65_504, 256));
-    assert_eq!(rt; closest::<Esp32c3>(268_304_385, 256), (0, 0, 4));
+    assert_eq!(rt;
+        closest::<Esp32c3>(267_256_320, 256),
+        Ok((255, 65_504, 256))
+    );
+    assert_eq!(rt;
+        closest::<Esp32c3>(267_256_321, 256),
+        Ok((256, 65_248, 256))
+    );
+    assert_eq!(rt;
+        closest::<Esp32c3>(268_304_384, 256),
+        Ok((256, 65_504, 256))
+    );
+    assert_eq!(rt; closest::<Esp32c3>(268_304_385, 256), Err(4));
 }
 
 #[test]
 fn percents_at_their_limits(rt: HostRuntime) {
-    assert_eq!(rt; percent::<Esp32>(0), (0, 0, 1));
-    assert_eq!(rt; percent::<Esp32>(1), (0, 0, 6));
-    assert_eq!(rt; percent::<Esp32>(6), (0, 0, 6));
-    assert_eq!(rt; percent::<Esp32>(7), (1, 3, 5_333_333));
-    assert_eq!(rt; percent::<Esp32>(100), (1, 3, 5_333_333));
-    assert_eq!(rt; percent::<Esp32>(101), (0, 0, 1));
+    assert_eq!(rt; percent::<Esp32>(0), Err(1));
+    assert_eq!(rt; percent::<Esp32>(1), Err(6));
+    assert_eq!(rt; percent::<Esp32>(6), Err(6));
+    assert_eq!(rt; percent::<Esp32>(7), Ok((1, 3, 5_333_333)));
+    assert_eq!(rt; percent::<Esp32>(100), Ok((1, 3, 5_333_333)));
+    assert_eq!(rt; percent::<Esp32>(101), Err(1));
     assert_eq!(rt;
         outcome::<Esp32>(
             ClockSource::RefTick,
@@ -101,7 +116,7 @@ fn percents_at_their_limits(rt: HostRuntime) {
             5_000_000,
             BaudrateTolerance::Exact,
         ),
-        (1, 1, 5_050_000)
+        Ok((1, 1, 5_050_000))
     );
     assert_eq!(rt;
         outcome::<Esp32>(
@@ -110,7 +125,7 @@ fn percents_at_their_limits(rt: HostRuntime) {
             5_000_000,
             BaudrateTolerance::Exact,
         ),
-        (0, 0, 6)
+        Err(6)
     );
 }
 
@@ -119,7 +134,7 @@ fn percents_at_their_limits(rt: HostRuntime) {
 fn the_first_refusal_is_given(rt: HostRuntime) {
     assert_eq!(rt;
         outcome::<Esp32>(ClockSource::Xtal, 0, 0, BaudrateTolerance::ErrorPercent(0)),
-        (0, 0, 1)
+        Err(1)
     );
     assert_eq!(rt;
         outcome::<Esp32>(
@@ -128,7 +143,7 @@ fn the_first_refusal_is_given(rt: HostRuntime) {
             0,
             BaudrateTolerance::ErrorPercent(100),
         ),
-        (0, 0, 2)
+        Err(2)
     );
     assert_eq!(rt;
         outcome::<Esp32>(
@@ -137,7 +152,7 @@ fn the_first_refusal_is_given(rt: HostRuntime) {
             9_600,
             BaudrateTolerance::Closest,
         ),
-        (0, 0, 3)
+        Err(3)
     );
     assert_eq!(rt;
         outcome::<Esp32>(
@@ -146,7 +161,7 @@ fn the_first_refusal_is_given(rt: HostRuntime) {
             9_600,
             BaudrateTolerance::Closest,
         ),
-        (0, 0, 3)
+        Err(3)
     );
     assert_eq!(rt;
         outcome::<Esp32c3>(
@@ -155,7 +170,7 @@ fn the_first_refusal_is_given(rt: HostRuntime) {
             9_600,
             BaudrateTolerance::Closest,
         ),
-        (0, 0, 3)
+        Err(3)
     );
     assert_eq!(rt;
         outcome::<Esp32c6>(
@@ -164,7 +179,7 @@ fn the_first_refusal_is_given(rt: HostRuntime) {
             9_600,
             BaudrateTolerance::Closest,
         ),
-        (0, 0, 3)
+        Err(3)
     );
     assert_eq!(rt;
         outcome::<Esp32c6>(
@@ -173,6 +188,6 @@ fn the_first_refusal_is_given(rt: HostRuntime) {
             9_600,
             BaudrateTolerance::Closest,
         ),
-        (3, 44_444, 9_600)
+        Ok((3, 44_444, 9_600))
     );
 }

@@ -4,7 +4,7 @@ ghost use Rattle.uart_chip.specs.Steps.{source_code, stop_code};
 
 use uart_rate::config::{ClockSource, StopBits};
 
-// The code of a clock source. REF_TICK has none: 0 stands for it, and no chip here writes it. So the codes are no discriminants and no `From`.
+// The code of a clock source in `sclk_sel`. Discriminants would be no plainer: the one enum of all chips' sources would state numbers that the ESP32 does not have.
 pub fn source_code(source: ClockSource) -> u32
     ensures { result ≡ source_code source }
 {

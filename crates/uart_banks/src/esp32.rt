@@ -1,4 +1,4 @@
-// The ESP32's own ways. A rule of the project has each chip give its own four steps, and none of the others states what this one does.
+// The ESP32's own ways. A rule of the project has each chip give its own four steps; a text is shared only by chips that state `Selected`.
 use super::bank::Bank;
 use super::steps::Steps;
 use uart_chip::at_cmd::AtCmdConfig;

@@ -6,7 +6,7 @@ use uart_chip::arrival::Arrival;
 use uart_chip::events::Events;
 use uart_chip::wire::Wire;
 
-// What is left of the two lists.
+// What is left of the two lists. The coding of an arrival is this wire's own, so it is no `From` of arrivals.
 #[derive(Clone, Copy, Debug, PartialEq, Eq, Hash)]
 pub struct Scripted<'a> {
     delays: &'a [u32],

@@ -14,7 +14,7 @@ pub struct EnumSet<K: EventKind> {
     pub ghost of_kind: { Within events K.every },
 }
 
-// `Clone` is written out: the checker refuses its derive on a generic type with a ghost field.
+// `Clone` is written out: its derive was tried, and is refused on a generic type with a ghost field.
 impl<K: EventKind> Clone for EnumSet<K> {
     ghost is_clone = { λ s t. t ≡ s };
 

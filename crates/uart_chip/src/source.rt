@@ -14,6 +14,7 @@ pub struct Look {
     pub count: u16,
 }
 
+// The clauses join the five members each time: a member made of the others could not be cited by them, since an impl might give another.
 pub trait EventSource {
     ghost raw: { Self → Events };
 
