@@ -1,4 +1,4 @@
-// The settings that have calls of their own: receive threshold, receive timeout and AT command.
+// The settings that have calls of their own: receive threshold, receive timeout and AT command. Two lines round each call count its reads; a helper that takes the call as a closure would be no plainer.
 ghost use Rattle.std.specs.Prelude.{[], ◌∷◌};
 ghost use Rattle.uart_config.specs.Rows.{threshold_row, timeout_row, at_cmd_rows};
 ghost use Rattle.uart_config.specs.Runs.{HasRoom, Ran};

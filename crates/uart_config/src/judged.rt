@@ -12,7 +12,7 @@ use uart_rate::judge::judge;
 use uart_rate::refusal::Refusal;
 
 // The configuration, the hertz of its clock source, and the divider that it was given.
-#[derive(Clone, Copy)]
+#[derive(Clone, Copy, Debug)]
 pub(crate) struct Judged<'a> {
     pub(crate) config: &'a Config,
     pub(crate) clk: u32,

@@ -2,6 +2,7 @@
 ghost use Rattle.std.specs.Prelude.{◌≡◌, [], ◌∷◌, IfOk, None};
 ghost use Rattle.uart_config.specs.Rows.{reset_field, on_row, update_row, reset_rows};
 ghost use Rattle.uart_config.specs.Runs.{HasRoom, Ran};
+ghost use Rattle.uart_config.specs.Uarts.{rest_of};
 
 use super::fault::Fault;
 use super::fifo::{Fifo, HeldReset};
@@ -17,6 +18,7 @@ impl<C: Chip> Uart<C> {
         requires { HasRoom (on_row fifo step ∷ []) self.old }
         ensures ran { Ran C.EventSource C.Kind.ChipKind.PROPERTIES (on_row fifo step ∷ []) self.old result self.new }
         ensures held { IfOk result (λ h. (h.fifo ≡ fifo) × (h.step ≡ step)) }
+        ensures on { IfOk result (λ _. (rest_of C.EventSource self.new).fields (reset_field fifo) ≡ 1) }
     {
         self.chip.write(fifo.reset_field(), 1);
         if let Err(fault) = self.update(step) {
@@ -27,9 +29,10 @@ impl<C: Chip> Uart<C> {
         Ok(HeldReset { fifo, step, on })
     }
 
-    // Lets a FIFO go that was held in reset.
+    // Lets a FIFO go that is held in reset: its reset field is 1.
     fn release_reset(&mut self, held: HeldReset) -> Result<(), Fault>
-        requires { HasRoom (update_row held.step None ((reset_field held.fifo, 0) ∷ []) ∷ []) self.old }
+        requires room { HasRoom (update_row held.step None ((reset_field held.fifo, 0) ∷ []) ∷ []) self.old }
+        requires on { (rest_of C.EventSource self.old).fields (reset_field held.fifo) ≡ 1 }
         ensures { Ran C.EventSource C.Kind.ChipKind.PROPERTIES (update_row held.step None ((reset_field held.fifo, 0) ∷ []) ∷ []) self.old result self.new }
     {
         let HeldReset { fifo, step, on: _ } = held;
