@@ -9,17 +9,19 @@ use std::io::{BufRead, BufReader, BufWriter, Write};
 use std::rt::Env;
 use std::{env, io};
 
-// Answers what was asked, or tells the mistake that stands at `place`; tells whether the query could be read.
-fn tell(
+// Answers what was asked by a line that `print` takes, or tells the mistake that stands at `place`; tells whether the query could be read.
+fn tell<F: FnOnce(Line) -> io::Result<()>>(
     rt: &impl Eprint,
-    out: &mut impl Write,
     place: &impl Display,
     asked: Asked,
-) -> io::Result<bool> {
+    print: F,
+) -> io::Result<bool>
+    requires { F.IsAlwaysCallable print }
+{
     match asked {
         Ok(None) => Ok(true),
         Ok(Some(query)) => {
-            writeln!(out, "{}", Line::new(query))?;
+            print(Line::new(query))?;
             Ok(true)
         }
         Err(mistake) => {
@@ -38,7 +40,8 @@ fn answer_arguments(
         .iter()
         .map(|argument| argument.as_bytes())
         .collect(rt.alloc())?;
-    tell(rt, &mut io::writer(rt), &"arguments", ask(&words))
+    // `println!` writes the line in one piece, so nobody sees a part of it.
+    tell(rt, &"arguments", ask(&words), |line| println!(rt; "{line}"))
 }
 
 // Answers every line of standard input; tells whether all could be read.
@@ -58,7 +61,12 @@ fn answer_input(rt: &(impl AllocGlobal + Eprint + Input + Print)) -> io::Result<
             break;
         }
         let asked = read_line(rt.alloc(), &line)?;
-        all_read &= tell(rt, &mut out, &format_args!("line {number}"), asked)?;
+        all_read &= tell(
+            rt,
+            &format_args!("line {number}"),
+            asked,
+            |line| writeln!(out, "{line}"),
+        )?;
     }
     out.flush()?;
     Ok(all_read)
