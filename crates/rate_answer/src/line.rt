@@ -18,11 +18,14 @@ pub struct Percent(pub u32);
 impl fmt::Display for Percent {
     ghost output = { λ x. Some (percent_text x.0) };
 
-    #[tactic(auto, using(crate::proofs::Digits::last_four))]
+    // Each decimal is written by itself: a writer with a buffer ends its blocks between such pieces, and where they end shows if mistakes go to the same place.
     fn fmt<W: fmt::Write>(&self, f: &mut fmt::Formatter<W>) -> fmt::Result {
         let whole = self.0 / 10_000;
-        let decimals = self.0 % 10_000;
-        write!(f, "{whole}.{decimals:04} %")
+        let tenths = self.0 / 1_000 % 10;
+        let hundredths = self.0 / 100 % 10;
+        let thousandths = self.0 / 10 % 10;
+        let last = self.0 % 10;
+        write!(f, "{whole}.{tenths}{hundredths}{thousandths}{last} %")
     }
 }
 
