@@ -63,14 +63,14 @@ impl Events {
     pub fn none() -> Events
         ensures { result ≡ none }
     {
-        Events::of(&[])
+        Events::those(|_| false)
     }
 
     // All nine events.
     pub fn all() -> Events
         ensures { result ≡ every }
     {
-        Events::of(&Event::ALL)
+        Events::those(|_| true)
     }
 
     // The set of some events.

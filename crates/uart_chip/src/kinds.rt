@@ -57,15 +57,11 @@ impl EventKind for RxEvent {
     }
 
     fn every() -> Events {
-        Events::of(&[
-            Event::FifoFull,
-            Event::CmdCharDetected,
-            Event::FifoOvf,
-            Event::FifoTout,
-            Event::GlitchDetected,
-            Event::FrameError,
-            Event::ParityError,
-        ])
+        Events {
+            done: false,
+            fifo_empty: false,
+            ..Events::all()
+        }
     }
 }
 
@@ -88,7 +84,11 @@ impl EventKind for TxEvent {
     }
 
     fn every() -> Events {
-        Events::of(&[Event::Done, Event::FiFoEmpty])
+        Events {
+            done: true,
+            fifo_empty: true,
+            ..Events::none()
+        }
     }
 }
 
@@ -113,12 +113,13 @@ impl EventKind for UartInterrupt {
     }
 
     fn every() -> Events {
-        Events::of(&[
-            Event::CmdCharDetected,
-            Event::Done,
-            Event::FifoFull,
-            Event::FifoTout,
-        ])
+        Events {
+            cmd_char_detected: true,
+            done: true,
+            fifo_full: true,
+            fifo_tout: true,
+            ..Events::none()
+        }
     }
 }
 
