@@ -1,7 +1,9 @@
 // Each bank is driven over a scripted wire: fields, updates with delays 0, 1 and 3, and looks past the end of the list.
+use super::fifth::Fifth;
 use super::fourth::Fourth;
 use std::process::Abort;
 use uart_banks::bank::Bank;
+use uart_banks::bank_core::Core;
 use uart_banks::scripted::Scripted;
 use uart_banks::steady::Steady;
 use uart_banks::steps::Steps;
@@ -104,6 +106,7 @@ fn each_bank_over_a_scripted_wire(rt: HostRuntime) {
     drive(&rt, Esp32c3, true);
     drive(&rt, Esp32c6, true);
     drive(&rt, Fourth, true);
+    drive(&rt, Fifth, false);
 }
 
 #[test]
@@ -196,4 +199,46 @@ fn the_made_up_chip_in_its(rt: HostRuntime) {
     chip.write_at_cmd(command());
     assert_eq!(rt; chip.read(Field::AtCmdChar), 43);
     assert_eq!(rt; chip.read(Field::CharNum), 3);
+}
+
+#[test]
+fn a_chip_with_the_steps_of_the_esp32(rt: HostRuntime) {
+    let mut chip = Bank::fresh(Fifth, Steady { delay: 0 });
+    chip.write_clock(ClockSource::Apb, 7);
+    assert_eq!(rt; chip.read(Field::SclkSel), 1);
+    assert_eq!(rt; chip.read(Field::TickRefAlwaysOn), 0);
+    chip.write_stop(StopBits::_2);
+    assert_eq!(rt; chip.read(Field::Dl1En), 1);
+    chip.write_timeout(Some(200));
+    assert_eq!(rt; chip.read(Field::RxToutThrhd), 200);
+    chip.write_at_cmd(command());
+    assert_eq!(rt; chip.read(Field::RxGapTout), 4);
+    assert_eq!(rt; chip.is_waiting(), false);
+}
+
+// Two stop bits, on a core that is lent without its bank.
+fn two_stop_bits<K: Steps>(core: &mut Core<Steady>) {
+    K::write_stop(core, StopBits::_2);
+}
+
+#[test]
+fn a_core_without_its_bank(rt: HostRuntime) {
+    let mut core = Bank::fresh(Esp32, Steady { delay: 5 }).core;
+    two_stop_bits::<Esp32>(&mut core);
+    assert_eq!(rt; core.registers.read(Field::Dl1En), 1);
+    assert_eq!(rt; core.registers.read(Field::StopBitNum), 1);
+    two_stop_bits::<Esp32c3>(&mut core);
+    assert_eq!(rt; core.registers.read(Field::StopBitNum), 3);
+    assert_eq!(rt; core.waiting, true);
+    core.waiting = false;
+    core.request();
+    core.write(false, Field::BitNum, 3);
+    assert_eq!(rt; core.registers.read(Field::BitNum), 3);
+    assert_eq!(rt; core.stands(), false);
+    assert_eq!(rt; core.waiting, false);
+    core.write_given(true, Field::RxGapTout, None);
+    assert_eq!(rt; core.waiting, false);
+    core.write_given(true, Field::RxGapTout, Some(4));
+    assert_eq!(rt; core.registers.read(Field::RxGapTout), 4);
+    assert_eq!(rt; core.waiting, true);
 }

@@ -2,7 +2,7 @@
 ghost use Rattle.bank_tests.specs.Fourth.{fourth_limits, fourth_has, fourth_source, fourth_properties};
 ghost use Rattle.std.proofs.Common.{rules};
 
-use uart_banks::bank::Bank;
+use uart_banks::bank_core::Core;
 use uart_banks::codes::source_code;
 use uart_banks::steps::Steps;
 use uart_chip::at_cmd::AtCmdConfig;
@@ -59,35 +59,35 @@ impl ChipKind for Fourth {
 }
 
 impl Steps for Fourth {
-    fn write_clock<W: Wire>(bank: &mut Bank<Self, W>, source: ClockSource, prescaler: u16) {
-        bank.write(Field::SclkSel, source_code(source));
-        bank.write(Field::SclkDivNum, u32::from(prescaler).saturating_sub(1));
-        bank.write(Field::SclkDivA, 0);
-        bank.write(Field::SclkDivB, 0);
+    fn write_clock<W: Wire>(core: &mut Core<W>, source: ClockSource, prescaler: u16) {
+        core.write_on::<Self>(Field::SclkSel, source_code(source));
+        core.write_on::<Self>(Field::SclkDivNum, u32::from(prescaler).saturating_sub(1));
+        core.write_on::<Self>(Field::SclkDivA, 0);
+        core.write_on::<Self>(Field::SclkDivB, 0);
     }
 
-    fn write_stop<W: Wire>(bank: &mut Bank<Self, W>, stop: StopBits) {
+    fn write_stop<W: Wire>(core: &mut Core<W>, stop: StopBits) {
         if stop == StopBits::_2 {
-            bank.write(Field::Dl1En, 1);
-            bank.write(Field::StopBitNum, 1);
+            core.write_on::<Self>(Field::Dl1En, 1);
+            core.write_on::<Self>(Field::StopBitNum, 1);
         }
     }
 
-    fn write_timeout<W: Wire>(bank: &mut Bank<Self, W>, timeout: Option<u8>) {
+    fn write_timeout<W: Wire>(core: &mut Core<W>, timeout: Option<u8>) {
         match timeout {
             Some(symbols) => {
-                bank.write(Field::RxToutThrhd, u32::from(symbols));
-                bank.write(Field::RxToutEn, 1);
+                core.write_on::<Self>(Field::RxToutThrhd, u32::from(symbols));
+                core.write_on::<Self>(Field::RxToutEn, 1);
             }
-            None => bank.write(Field::RxToutEn, 0),
+            None => core.write_on::<Self>(Field::RxToutEn, 0),
         }
     }
 
-    fn write_at_cmd<W: Wire>(bank: &mut Bank<Self, W>, config: AtCmdConfig) {
-        bank.write(Field::AtCmdChar, u32::from(config.cmd_char));
-        bank.write(Field::CharNum, u32::from(config.char_num));
-        bank.write_given(Field::PreIdleNum, config.pre_idle_count);
-        bank.write_given(Field::PostIdleNum, config.post_idle_count);
-        bank.write_given(Field::RxGapTout, config.gap_timeout);
+    fn write_at_cmd<W: Wire>(core: &mut Core<W>, config: AtCmdConfig) {
+        core.write_on::<Self>(Field::AtCmdChar, u32::from(config.cmd_char));
+        core.write_on::<Self>(Field::CharNum, u32::from(config.char_num));
+        core.write_given_on::<Self>(Field::PreIdleNum, config.pre_idle_count);
+        core.write_given_on::<Self>(Field::PostIdleNum, config.post_idle_count);
+        core.write_given_on::<Self>(Field::RxGapTout, config.gap_timeout);
     }
 }

@@ -3,11 +3,10 @@ use Rattle.std.proofs.Common.{◌≡◌, ℕ, Bool, true, false, ◌||◌, cond,
 use Rattle.std.proofs.lemmas.Bool.Decides.{nat_tests}
 use Rattle.std.proofs.lemmas.Grind.{common_steps}
 use mathlib.Core.Path.{fun_ext}
-use Rattle.uart_banks.specs.Banks.{MakesWrites}
-use Rattle.uart_banks.specs.Cores.{core_meaning, core_rest}
+use Rattle.uart_banks.specs.Cores.{core_meaning}
 use Rattle.uart_banks.specs.Gates.{Puts}
-use Rattle.uart_chip.proofs.Writes.{put_all_append, written_all_append}
-use Rattle.uart_banks.specs.declared.bank.Bank.{Bank}
+use Rattle.uart_chip.proofs.Writes.{put_all_append}
+use Rattle.uart_banks.specs.declared.bank_core.Core.{Core}
 use Rattle.uart_chip.specs.Device.{Rest, with_rest}
 use Rattle.uart_chip.specs.Fields.{line, put}
 use Rattle.uart_chip.specs.Registers.{value_of}
@@ -21,14 +20,7 @@ same : {X : Type 0} (b : Bool) (x : X) → cond b x x ≡ x
 same true x = refl
 same false x = refl
 
--- writes after writes are one list of writes
-pub then_writes : {K W : Type 0} {g : Ghosts W} {u : Bool} {xs ys : Writes} {a b c : Bank K W} → MakesWrites g u xs a b → MakesWrites g u ys b c → MakesWrites g u (xs ++ ys) a c
-then_writes {g = g} {u = u} {xs = xs} {ys = ys} {a = a} p q = record {
-  core = q.core ∙ (ap (after_writes u ys) p.core ∙ ap (λ (r : Rest). with_rest r (core_meaning g a.core)) (sym (written_all_append u xs ys (core_rest g a.core))));
-  kind = q.kind ∙ p.kind;
-}
-
--- the same for values beside the gate
+-- writes after writes are one list of writes, for values beside the gate
 pub then_puts : {xs ys : Writes} {vs us ws : List ℕ} → Puts xs vs us → Puts ys us ws → Puts (xs ++ ys) vs ws
 then_puts {xs = xs} {ys = ys} {vs = vs} a b = record {
   fields = λ e. b.fields e ∙ (ap (put_all ys) (a.fields e) ∙ sym (put_all_append xs ys (value_of (record { sclk_en = e; values = vs }))));
@@ -63,22 +55,19 @@ marked_twice u w = grind (arith, common_steps)
 opened : (o p q r : Writes) → (p ++ (q ++ (r ++ []))) ++ o ≡ p ++ (q ++ (r ++ o))
 opened o p q r = grind (arith, common_steps)
 
--- the writes of an AT command with the gate shut, on a bank
-pub gated_writes : {K W : Type 0} {g : Ghosts W} {u : Bool} {us : List ℕ} (b : Bank K W) (c : AtCmdConfig) → Puts (at_cmd_writes false c) b.core.registers.values us →
-    MakesWrites g u (at_cmd_writes true c) b (record {
-      kind = b.kind;
-      core = record {
-        wire = b.core.wire;
-        raw = b.core.raw;
-        enabled = b.core.enabled;
-        count = b.core.count;
-        registers = record { sclk_en = 1; values = us };
-        waiting = b.core.waiting || u;
-        standing = None;
-      };
-    })
-gated_writes {g = g} {u = u} {us = us} b c p =
-    let before = core_meaning g b.core in
+-- the writes of an AT command with the gate shut, on a core
+pub gated_writes : {W : Type 0} (g : Ghosts W) (u : Bool) {us : List ℕ} (b : Core W) (c : AtCmdConfig) → Puts (at_cmd_writes false c) b.registers.values us →
+    core_meaning g (record {
+      wire = b.wire;
+      raw = b.raw;
+      enabled = b.enabled;
+      count = b.count;
+      registers = record { sclk_en = 1; values = us };
+      waiting = b.waiting || u;
+      standing = None;
+    }) ≡ after_writes u (at_cmd_writes true c) (core_meaning g b)
+gated_writes g u {us = us} b c p =
+    let before = core_meaning g b in
     let first : Field × ℕ = (CharNum, c.char_num) in
     let pre : Writes = given PreIdleNum c.pre_idle_count in
     let post : Writes = given PostIdleNum c.post_idle_count in
@@ -86,11 +75,8 @@ gated_writes {g = g} {u = u} {us = us} b c p =
     let open_up : Writes = (SclkEn, 1) ∷ [] in
     let more : Writes = first ∷ (pre ++ (post ++ (gap ++ open_up))) in
     let fs : Field → ℕ = put AtCmdChar c.cmd_char (put SclkEn 0 before.rest.fields) in
-    let fields = gated b.core.registers.sclk_en (at_cmd_writes false c) b.core.registers.values us p ∙ ap (λ (z : Writes). put_all (first ∷ z) fs) (opened open_up pre post gap) in
-    record {
-      core = ap (λ (r : Rest). with_rest r before) (
-          ap (λ (f : Field → ℕ). record { fields = f; waiting = b.core.waiting || u; standing = 0; delays = before.rest.delays }) fields ∙
-          (ap (λ (m : Bool). record { fields = put_all more fs; waiting = m; standing = 0; delays = before.rest.delays }) (marked u b.core.waiting) ∙
-          sym (settled u (cond u true b.core.waiting) (marked_twice u b.core.waiting) more fs before.rest.delays)));
-      kind = refl;
-    }
+    let fields = gated b.registers.sclk_en (at_cmd_writes false c) b.registers.values us p ∙ ap (λ (z : Writes). put_all (first ∷ z) fs) (opened open_up pre post gap) in
+    ap (λ (r : Rest). with_rest r before) (
+    ap (λ (f : Field → ℕ). record { fields = f; waiting = b.waiting || u; standing = 0; delays = before.rest.delays }) fields ∙
+    (ap (λ (m : Bool). record { fields = put_all more fs; waiting = m; standing = 0; delays = before.rest.delays }) (marked u b.waiting) ∙
+    sym (settled u (cond u true b.waiting) (marked_twice u b.waiting) more fs before.rest.delays)))

@@ -81,18 +81,18 @@ impl<K: Steps, W: Wire> Chip for Bank<K, W> {
     }
 
     fn write_clock(&mut self, source: ClockSource, prescaler: u16) {
-        K::write_clock(self, source, prescaler);
+        K::write_clock(&mut self.core, source, prescaler);
     }
 
     fn write_stop(&mut self, stop: StopBits) {
-        K::write_stop(self, stop);
+        K::write_stop(&mut self.core, stop);
     }
 
     fn write_timeout(&mut self, timeout: Option<u8>) {
-        K::write_timeout(self, timeout);
+        K::write_timeout(&mut self.core, timeout);
     }
 
     fn write_at_cmd(&mut self, config: AtCmdConfig) {
-        K::write_at_cmd(self, config);
+        K::write_at_cmd(&mut self.core, config);
     }
 }

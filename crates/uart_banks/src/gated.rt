@@ -1,4 +1,4 @@
-// The at-command fields, written while the clock gate is shut. A rule of the project has the guard borrow the plain gate field, so the writes go through it and not by the bank's own `write`. That the gate is shut is asked each time: at the guard's end it is open, so the guard has no invariant that says it.
+// The at-command fields, written while the clock gate is shut. A rule of the project has the guard borrow the plain gate field, so the writes go through it and not by the core's own `write`. That the gate is shut is asked each time: at the guard's end it is open, so the guard has no invariant that says it.
 ghost use Rattle.std.specs.Prelude.{◌≡◌, ◌≢◌, false, [], ◌∷◌};
 ghost use Rattle.uart_chip.specs.Fields.{index_of};
 ghost use Rattle.uart_chip.specs.Steps.{given, at_cmd_writes};
