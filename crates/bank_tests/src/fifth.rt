@@ -1,4 +1,4 @@
-// A made-up chip: an ESP32 whose clock source is a code. It writes the clock itself, and hands its core on to the ESP32's other steps.
+// A made-up chip: an ESP32 whose clock source is a code. Of its four steps it writes the clock itself; in the others, where it states the same, it lends its core to the ESP32's.
 ghost use Rattle.bank_tests.specs.Fifth.{fifth_properties};
 ghost use Rattle.std.proofs.Common.{rules};
 ghost use Rattle.uart_rate.specs.Generators.{esp32_limits, esp32_has, esp32_source};

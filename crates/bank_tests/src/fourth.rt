@@ -1,4 +1,4 @@
-// A made-up chip, unlike the three: other numbers, other sources, an update and the extra stop bit together. A rule of the project has each chip give its own four steps, so what it has in common with the ESP32 stands here again.
+// A made-up chip, unlike the three: other numbers, other sources, an update and the extra stop bit together. A rule of the project has each chip give its own four steps, and the ESP32's are those of a chip without updates, so what it has in common with the ESP32 stands here again.
 ghost use Rattle.bank_tests.specs.Fourth.{fourth_limits, fourth_has, fourth_source, fourth_properties};
 ghost use Rattle.std.proofs.Common.{rules};
 
