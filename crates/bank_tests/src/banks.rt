@@ -106,7 +106,6 @@ fn each_bank_over_a_scripted_wire(rt: HostRuntime) {
     drive(&rt, Esp32c3, true);
     drive(&rt, Esp32c6, true);
     drive(&rt, Fourth, true);
-    drive(&rt, Fifth, false);
 }
 
 #[test]
@@ -203,6 +202,7 @@ fn the_made_up_chip_in_its(rt: HostRuntime) {
 
 #[test]
 fn a_chip_with_the_steps_of_the_esp32(rt: HostRuntime) {
+    drive(&rt, Fifth, false);
     let mut chip = Bank::fresh(Fifth, Steady { delay: 0 });
     chip.write_clock(ClockSource::Apb, 7);
     assert_eq!(rt; chip.read(Field::SclkSel), 1);
