@@ -30,17 +30,17 @@ pub no_puts : {vs : List ℕ} → Puts [] vs vs
 no_puts = record { fields = λ e. refl }
 
 -- once a line field was written, more writes change the fields alone
-settled : (u m : Bool) → cond u true m ≡ m → (ws : Writes) (fs : Field → ℕ) (ds : ℕ → ℕ) →
+pub settled : (u m : Bool) → cond u true m ≡ m → (ws : Writes) (fs : Field → ℕ) (ds : ℕ → ℕ) →
     written_all u ws (record { fields = fs; waiting = m; standing = 0; delays = ds }) ≡ record { fields = put_all ws fs; waiting = m; standing = 0; delays = ds }
 settled u m h [] fs ds = refl
 settled u m h (a ∷ ws) fs ds = rw (h, same {X = Bool} (line a.0) m, same {X = ℕ} (line a.0) 0) (settled u m h ws (put a.0 a.1 fs) ds)
 
 -- a write of the clock gate puts it
-gate_put : (x y : ℕ) (vs : List ℕ) → value_of (record { sclk_en = y; values = vs }) ≡ put SclkEn y (value_of (record { sclk_en = x; values = vs }))
+pub gate_put : (x y : ℕ) (vs : List ℕ) → value_of (record { sclk_en = y; values = vs }) ≡ put SclkEn y (value_of (record { sclk_en = x; values = vs }))
 gate_put x y vs = fun_ext (λ f. grind (arith, nat_tests))
 
 -- the gate shut, other fields written, and the gate opened
-gated : (x : ℕ) (ws : Writes) (vs us : List ℕ) → Puts ws vs us →
+pub gated : (x : ℕ) (ws : Writes) (vs us : List ℕ) → Puts ws vs us →
     value_of (record { sclk_en = 1; values = us }) ≡ put_all (ws ++ ((SclkEn, 1) ∷ [])) (put SclkEn 0 (value_of (record { sclk_en = x; values = vs })))
 gated x ws vs us p =
     gate_put 0 1 us ∙ (ap (put SclkEn 1) (p.fields 0 ∙ ap (put_all ws) (gate_put x 0 vs)) ∙ sym (put_all_append ws ((SclkEn, 1) ∷ []) (put SclkEn 0 (value_of (record { sclk_en = x; values = vs })))))

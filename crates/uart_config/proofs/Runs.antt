@@ -53,7 +53,7 @@ row_by : (has : Bool) (b : ℕ) (r : Row) (n : ℕ) (s : Rest) (e : Option Refus
 row_by has b r n s None p = body_by has b r n s p r.updates refl
 row_by has b r n s (Some e) p = row_refused has b r n e s p
 
-row_carried : (has : Bool) (b : ℕ) (r : Row) (n : ℕ) (s : Rest) → Carries has b (r ∷ []) n (run_row has b r n s) s
+pub row_carried : (has : Bool) (b : ℕ) (r : Row) (n : ℕ) (s : Rest) → Carries has b (r ∷ []) n (run_row has b r n s) s
 row_carried has b r n s =
     subst (λ (z : Rest). Carries has b (r ∷ []) n (tested r.refusal n s (cond r.updates (falling has r.off (synced has b r.step n z)) (record { answer = Ok n; rest = z }))) s)
     (sym (written_is has r.writes s)) (row_by has b r n s r.refusal refl)
@@ -74,7 +74,7 @@ from_carried has b r [] n s = row_carried has b r n s
 from_carried has b r (q ∷ qs) n s =
     onward_carried has b (r ∷ []) (q ∷ qs) n s (run_from has b q qs) (λ k m. from_carried has b q qs k m) (run_row has b r n s).answer (run_row has b r n s).rest (row_carried has b r n s)
 
-run_carried : (has : Bool) (b : ℕ) (rows : List Row) (n : ℕ) (s : Rest) → Carries has b rows n (run has b rows n s) s
+pub run_carried : (has : Bool) (b : ℕ) (rows : List Row) (n : ℕ) (s : Rest) → Carries has b rows n (run has b rows n s) s
 run_carried has b [] n s = nothing has b n s
 run_carried has b (r ∷ rs) n s = from_carried has b r rs n s
 

@@ -13,6 +13,7 @@ impl<C> Uart<C> {
     pub fn new(chip: C, budget: u16) -> Uart<C>
         ensures chip { result.chip ≡ chip }
         ensures budget { result.budget ≡ max budget 1 }
+        ensures reads { result.reads ≡ 0 }
     {
         Uart {
             chip,
