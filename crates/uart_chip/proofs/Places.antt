@@ -1,5 +1,5 @@
 -- No two fields share a place: a list of the fields gives each back from its place.
-use Rattle.std.proofs.Common.{◌≡◌, ℕ, [], ◌∷◌, get_or, sym, refl, ap, ◌∙◌}
+use Rattle.std.proofs.Common.{◌≡◌, ℕ, [], ◌∷◌, get_or, refl}
 use Rattle.uart_chip.specs.Fields.{index_of}
 use Rattle.uart_chip.specs.Members.{told_apart}
 use Rattle.uart_chip.specs.declared.field.Field.{Field}
