@@ -9,6 +9,7 @@ use uart_banks::steady::Steady;
 use uart_banks::steps::Steps;
 use uart_chip::at_cmd::AtCmdConfig;
 use uart_chip::chip::Chip;
+use uart_chip::event::Event;
 use uart_chip::events::Events;
 use uart_chip::field::Field;
 use uart_chip::source::EventSource;
@@ -241,4 +242,12 @@ fn a_core_without_its_bank(rt: HostRuntime) {
     core.write_given(true, Field::RxGapTout, Some(4));
     assert_eq!(rt; core.registers.read(Field::RxGapTout), 4);
     assert_eq!(rt; core.waiting, true);
+}
+
+#[test]
+fn all_nine_events_by_their_bits(rt: HostRuntime) {
+    assert_eq!(rt; Events::of(&Event::ALL), Events::all());
+    for (bit, event) in Event::ALL.iter().enumerate() {
+        assert_eq!(rt; usize::from(event.number()), bit);
+    }
 }
