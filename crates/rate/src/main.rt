@@ -40,7 +40,7 @@ fn answer_arguments(
         .iter()
         .map(|argument| argument.as_bytes())
         .collect(rt.alloc())?;
-    // `println!` writes the line in one piece, so nobody sees a part of it.
+    // `println!` writes the line at once.
     tell(rt, &"arguments", ask(&words), |line| println!(rt; "{line}"))
 }
 
